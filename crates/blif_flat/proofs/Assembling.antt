@@ -1,11 +1,9 @@
 -- The pieces of a block, one by one.
-use Rattle.std.proofs.Common.{◌≡◌, ℕ, zero, suc, ◌+◌, ◌<◌, ◌≤◌, ◌^◌, Bool, true, Bor, flat_map, subst, List, [], ◌∷◌}
+use Rattle.std.proofs.Common.{◌≡◌, ℕ, zero, suc, ◌+◌, ◌<◌, ◌≤◌, ◌^◌, Bool, flat_map, subst, List, [], ◌∷◌}
 use Rattle.std.proofs.Common.{◌++◌, map, length, take, drop, get_or, refl, sym, ap, ◌∙◌, arith, Option, Some, None}
 use Rattle.std.proofs.Common.{append_assoc, length-append, filter, replicate, drop-cons, add-one}
-use Rattle.std.specs.Prelude.{slice_index_or, is_some}
+use Rattle.std.specs.Prelude.{slice_index_or}
 use Rattle.std.specs.List.{AllByRecursion}
-use Rattle.std.specs.Str.{bytes_eq}
-use Rattle.indexmap.specs.IndexSet.{insert_all}
 use Rattle.std.proofs.lemmas.List.{map-append, take_more, append-nil, length-map, length-replicate, drop_all}
 use Rattle.blif_read.specs.declared.netlist.Def.{Def}
 use Rattle.blif_read.specs.declared.netlist.Cube.{Cube}
@@ -22,7 +20,7 @@ use Rattle.blif_flat.specs.declared.expansion.pieces.Piece.{Piece}
 use Rattle.blif_flat.specs.declared.expansion.pieces.Piece.TheVariants.{Own, Inner}
 use Rattle.blif_flat.specs.Code.Blocks.{buffer_of, placed, own_names, place, wide, is_that, block_names, call_pieces}
 use Rattle.blif_flat.specs.Code.Blocks.{calls_pieces, pieces, call_names}
-use Rattle.blif_flat.specs.Code.Joins.{ports_for, first_actual, exits_in, ArePlaces}
+use Rattle.blif_flat.specs.Code.Joins.{ports_for, first_actual, exits_in}
 use Rattle.blif_flat.proofs.Members.{map_map}
 use Rattle.blif_flat.proofs.Joining.{exits_more, inputs_actuals, exits_joined, first_at_most}
 
@@ -47,11 +45,11 @@ pub def_same : (line : ℕ) (ins ins2 : List ℕ) (on : Bool) (cubes cubes2 : Li
 def_same line ins ins2 on cubes cubes2 i c = λ j. def_of line (i j) on (c j)
 
 -- one output more
-pub exit_count : (ports : List (Option ℕ)) (exits : List ℕ) (i count next : ℕ) (d : Option ℕ) → i < length ports
+pub exit_count : (ports : List (Option ℕ)) (exits : List ℕ) (i count adds : ℕ) (d : Option ℕ) → i < length ports
     → count ≡ length (exits_in (take i ports) exits)
-    → next ≡ count + length (exits_in (get_or ports i d ∷ []) (get_or exits i 0 ∷ []))
-    → next ≡ length (exits_in (take (i + 1) ports) exits)
-exit_count ports exits i count next d lt c n =
+    → adds ≡ length (exits_in (get_or ports i d ∷ []) (get_or exits i 0 ∷ []))
+    → count + adds ≡ length (exits_in (take (i + 1) ports) exits)
+exit_count ports exits i count adds d lt c n =
     let more = ap length (exits_more ports exits i d lt)
     ∙ length-append (exits_in (take i ports) exits) (exits_in (get_or ports i d ∷ []) (get_or exits i 0 ∷ [])) in
     omega arith
@@ -77,27 +75,13 @@ exits_grow (Some n ∷ ports) [] (suc i) = let more = exits_grow ports [] i in o
 exits_grow (None ∷ ports) (x ∷ exits) (suc i) = exits_grow ports exits i
 exits_grow (Some n ∷ ports) (x ∷ exits) (suc i) = let more = exits_grow ports exits i in omega arith
 
-pub exit_few : (ports : List (Option ℕ)) (exits : List ℕ) (i count exit : ℕ) (d : Option ℕ) → i < length ports
-    → exit ≡ get_or exits i 0 → count ≡ length (exits_in (take i ports) exits)
-    → length (exits_in ports exits) < 2 ^ 32 → count + length (exits_in (get_or ports i d ∷ []) (exit ∷ [])) < 2 ^ 32
-exit_few ports exits i count exit d lt x c few =
-    let more = ap length (exits_more ports exits i d lt)
-    ∙ length-append (exits_in (take i ports) exits) (exits_in (get_or ports i d ∷ []) (get_or exits i 0 ∷ [])) in
+pub exit_few : (ports : List (Option ℕ)) (exits : List ℕ) (i count : ℕ) (d : Option ℕ) → i < length ports
+    → count ≡ length (exits_in (take i ports) exits) → length (exits_in ports exits) < 2 ^ 32
+    → count + length (exits_in (get_or ports i d ∷ []) (get_or exits i 0 ∷ [])) < 2 ^ 32
+exit_few ports exits i count d lt c few =
+    let more = exit_count ports exits i count _ d lt c refl in
     let grow = exits_grow ports exits (i + 1) in
-    let here : length (exits_in (get_or ports i d ∷ []) (exit ∷ [])) ≡ length
-    (exits_in (get_or ports i d ∷ []) (get_or exits i 0 ∷ [])) =
-    ap (λ e. length (exits_in (get_or ports i d ∷ []) (e ∷ []))) x in
     omega arith
-
-pub exit_there : (port : Option ℕ) (exit : ℕ) → is_some port ≡ true → length (exits_in (port ∷ []) (exit ∷ [])) ≡ 1
-exit_there (Some n) exit e = refl
-exit_there None exit e = absurd (cc)
-
-pub exit_reached : (from : ℕ) (exits : List ℕ) (i : ℕ) → AllByRecursion (λ e. from + e < 2 ^ 32) exits → from < 2 ^ 32
-    → from + get_or exits i 0 < 2 ^ 32
-exit_reached from [] i reach lt = omega arith
-exit_reached from (e ∷ exits) zero reach lt = reach.0
-exit_reached from (e ∷ exits) (suc i) reach lt = exit_reached from exits i reach.1 lt
 
 -- ---- calls
 
@@ -137,38 +121,40 @@ pieces_are : (models : List BlifModel) (model : BlifModel) (start : ℕ) (call :
 unfolding pieces_at
 pieces_are models model start call = refl
 
-pub call_made : (models : List BlifModel) (model : BlifModel) (n : ℕ) (call : Call) (outline : Outline)
-    (ins_named outs_named : List (List ℕ)) (start : ℕ) (entries entries_seen joined joined_seen : List (Option ℕ))
-    (exits_seen : List ℕ) (p0 p1 p2 p3 : List Piece)
-    → model_number models call.model ≡ Some n → IsOutline models (slice_index_or models n no_model) outline
-    → ins_named ≡ insert_all bytes_eq [] (names_in (slice_index_or models n no_model).inputs)
-    → outs_named ≡ distinct_outputs (slice_index_or models n no_model)
-    → entries_seen ≡ entries → entries ≡ ports_for ins_named (formals call) → joined_seen ≡ joined
-    → joined ≡ ports_for outs_named (formals call) → exits_seen ≡ outline.exits.items
-    → p1 ≡ p0 ++ map (λ p. Own (buffer_of call.line (place (wide models) models model (first_actual call p))))
-    entries_seen → p2 ≡ p1 ++ Inner n start ∷ []
-    → p3 ≡ p2 ++ map (λ e. Own (buffer_of call.line (start + e))) (exits_in joined_seen exits_seen)
+-- what is found of a call whose model has a number and an outline: the ports of its inputs and outputs, and the places
+-- of its outputs
+pub record IsCalled (models : List BlifModel) (n : ℕ) (call : Call) (outline : Outline) (ins outs : List (Option ℕ))
+    (places : List ℕ) : Type 0 where
+  pub at : model_number models call.model ≡ Some n
+  pub is : IsOutline models (slice_index_or models n no_model) outline
+  pub entries : ins ≡ ports_for (names_in (slice_index_or models n no_model).inputs) (formals call)
+  pub joined : outs ≡ ports_for (distinct_outputs (slice_index_or models n no_model)) (formals call)
+  pub exits : places ≡ outline.exits.items
+
+pub call_made : {models : List BlifModel} {n : ℕ} {call : Call} {outline : Outline} {entries joined : List (Option ℕ)}
+    {exits : List ℕ} (model : BlifModel) (start : ℕ) (p0 p1 p2 p3 : List Piece)
+    → IsCalled models n call outline entries joined exits
+    → p1 ≡ p0 ++ map (λ p. Own (buffer_of call.line (place (wide models) models model (first_actual call p)))) entries
+    → p2 ≡ p1 ++ Inner n start ∷ []
+    → p3 ≡ p2 ++ map (λ e. Own (buffer_of call.line (start + e))) (exits_in joined exits)
     → p3 ≡ p0 ++ call_pieces (wide models) models model start call
 unfolding pieces_at
-call_made models model n call outline ins_named outs_named start entries entries_seen joined joined_seen exits_seen p0
-    p1 p2 p3 at is names_i names_o es e js j xs one two three =
+call_made {models} {n} {call} {outline} {entries} {joined} {exits} model start p0 p1 p2 p3 so one two three =
     let called_is = slice_index_or models n no_model in
     let ins = map (λ i. Own (buffer_of call.line (place (wide models) models model (actual_of call i))))
     (names_in called_is.inputs) in
     let outs = map (λ o2. Own (buffer_of call.line (start + place (wide models) models called_is o2)))
     (filter (is_defined (formals call)) (distinct_outputs called_is)) in
-    let first = entries_are call (names_in called_is.inputs) entries_seen
-    (λ s. Own (buffer_of call.line (place (wide models) models model s)))
-    (es ∙ e ∙ ap (λ names. ports_for names (formals call)) (names_i ∙ is.inputs)) in
-    let last = exits_are call (distinct_outputs called_is) joined_seen exits_seen (place (wide models) models called_is)
-    (λ x. Own (buffer_of call.line (start + x)))
-    (js ∙ j ∙ ap (λ names. ports_for names (formals call)) names_o) (xs ∙ is.exits) in
-    three ∙ ap (λ front. front ++ map (λ e. Own (buffer_of call.line (start + e))) (exits_in joined_seen exits_seen))
+    let first = entries_are call (names_in called_is.inputs) entries
+    (λ s. Own (buffer_of call.line (place (wide models) models model s))) so.entries in
+    let last = exits_are call (distinct_outputs called_is) joined exits (place (wide models) models called_is)
+    (λ x. Own (buffer_of call.line (start + x))) so.joined (so.exits ∙ so.is.exits) in
+    three ∙ ap (λ front. front ++ map (λ e. Own (buffer_of call.line (start + e))) (exits_in joined exits))
     (two ∙ ap (λ front. front ++ Inner n start ∷ []) one)
     ∙ (λ i. ((p0 ++ first i) ++ Inner n start ∷ []) ++ last i)
     ∙ ap (λ front. front ++ outs) (append_assoc p0 ins (Inner n start ∷ []))
     ∙ append_assoc p0 (ins ++ Inner n start ∷ []) outs
-    ∙ ap (λ back. p0 ++ back) (ap (pieces_at models model start call) (sym at) ∙ pieces_are models model start call)
+    ∙ ap (λ back. p0 ++ back) (ap (pieces_at models model start call) (sym so.at) ∙ pieces_are models model start call)
 
 -- how much a call adds
 call_size : (models : List BlifModel) (n : ℕ) (call : Call) → model_number models call.model ≡ Some n
@@ -183,21 +169,15 @@ call_size models n call at =
     ∙ (λ i. length-replicate {A = Option (List ℕ)} (wide models called_is) None i + length-map outs
     (λ o. Some (actual_of call o)) i)
 
-pub call_next : (models : List BlifModel) (n : ℕ) (call : Call) (outline : Outline) (outs_named : List (List ℕ))
-    (start middle count next : ℕ) (joined joined_seen : List (Option ℕ)) (exits_seen : List ℕ)
-    → model_number models call.model ≡ Some n → IsOutline models (slice_index_or models n no_model) outline
-    → outs_named ≡ distinct_outputs (slice_index_or models n no_model)
-    → joined_seen ≡ joined → joined ≡ ports_for outs_named (formals call) → exits_seen ≡ outline.exits.items
-    → middle ≡ start + outline.width → count ≡ length (exits_in joined_seen exits_seen) → next ≡ middle + count
-    → next ≡ start + length (call_names (wide models) models call)
-call_next models n call outline outs_named start middle count next joined joined_seen exits_seen at
-    is names_o js j xs m c e =
+pub called_adds : {models : List BlifModel} {n : ℕ} {call : Call} {outline : Outline}
+    {entries joined : List (Option ℕ)} {exits : List ℕ} → IsCalled models n call outline entries joined exits
+    → outline.width + length (exits_in joined exits) ≡ length (call_names (wide models) models call)
+called_adds {models} {n} {call} {outline} {entries} {joined} {exits} so =
     let called_is = slice_index_or models n no_model in
-    let many = exits_count call (distinct_outputs called_is) joined_seen exits_seen
-    (place (wide models) models called_is)
-    (js ∙ j ∙ ap (λ names. ports_for names (formals call)) names_o) (xs ∙ is.exits) in
-    let size = call_size models n call at in
-    let w = is.width in
+    let many = exits_count call (distinct_outputs called_is) joined exits (place (wide models) models called_is)
+    so.joined (so.exits ∙ so.is.exits) in
+    let size = call_size models n call so.at in
+    let w = so.is.width in
     omega arith
 
 -- ---- 32 bits hold the places of a call
@@ -212,37 +192,18 @@ reaches : (start total : ℕ) (at : List ℕ → ℕ) (names : List (List ℕ)) 
 reaches start total at [] low few = tt
 reaches start total at (t ∷ ts) low few = (let le = low t in omega arith, reaches start total at ts low few)
 
--- what is known of a call whose model has a number and an outline, where 32 bits hold the place behind it
-pub record IsSmallCall (models : List BlifModel) (call : Call) (outline : Outline) (start : ℕ)
-    (joined : List (Option ℕ)) (exits : List ℕ) : Type 0 where
-  pub inner : start + outline.width < 2 ^ 32
-  pub next : start + outline.width + length (exits_in joined exits) < 2 ^ 32
-  pub count : length (exits_in joined exits) < 2 ^ 32
-  pub reach : AllByRecursion (λ e. start + e < 2 ^ 32) exits
-
-pub call_small : (models : List BlifModel) (n : ℕ) (call : Call) (outline : Outline) (outs_named : List (List ℕ))
-    (start : ℕ) (joined joined_seen : List (Option ℕ)) (exits_seen : List ℕ)
-    → model_number models call.model ≡ Some n → IsOutline models (slice_index_or models n no_model) outline
-    → outs_named ≡ distinct_outputs (slice_index_or models n no_model)
-    → joined_seen ≡ joined → joined ≡ ports_for outs_named (formals call) → exits_seen ≡ outline.exits.items
-    → start + length (call_names (wide models) models call) < 2 ^ 32
-    → IsSmallCall models call outline start joined_seen exits_seen
-call_small models n call outline outs_named start joined joined_seen exits_seen at is names_o js j xs few =
+pub called_reach : {models : List BlifModel} {n : ℕ} {call : Call} {outline : Outline}
+    {entries joined : List (Option ℕ)} {exits : List ℕ} (start : ℕ)
+    → IsCalled models n call outline entries joined exits
+    → start + length (call_names (wide models) models call) < 2 ^ 32 → AllByRecursion (λ e. start + e < 2 ^ 32) exits
+called_reach {models} {n} {call} {outline} {entries} {joined} {exits} start so few =
     let called_is = slice_index_or models n no_model in
-    let many = exits_count call (distinct_outputs called_is) joined_seen exits_seen
-    (place (wide models) models called_is)
-    (js ∙ j ∙ ap (λ names. ports_for names (formals call)) names_o) (xs ∙ is.exits) in
-    let size = call_size models n call at in
-    let w = is.width in
-    let full = is.full in
-    record {
-      inner = omega arith;
-      next = omega arith;
-      count = omega arith;
-      reach = subst (AllByRecursion (λ e. start + e < 2 ^ 32)) (sym (xs ∙ is.exits))
-          (reaches start (wide models called_is) (place (wide models) models called_is) (distinct_outputs called_is)
-          (λ t. let le = place_within models called_is t in omega arith) (omega arith));
-    }
+    let adds = called_adds so in
+    let w = so.is.width in
+    let full = so.is.full in
+    subst (AllByRecursion (λ e. start + e < 2 ^ 32)) (sym (so.exits ∙ so.is.exits))
+    (reaches start (wide models called_is) (place (wide models) models called_is) (distinct_outputs called_is)
+    (λ t. let le = place_within models called_is t in omega arith) (omega arith))
 
 -- ---- the pieces of a model
 
@@ -264,11 +225,6 @@ block_size models model =
     let whole = length-append (map (λ n. Some n) (own_names model))
     (flat_map (call_names (wide models) models) model.calls) in
     omega arith
-
-pub block_room : (models : List BlifModel) (model : BlifModel) (entries : List (Bor (List ℕ) × ℕ)) (width : ℕ)
-    → ArePlaces entries width (block_names (wide models) models model)
-    → length model.inputs + length model.defs + length (flat_map (call_names (wide models) models) model.calls) ≡ width
-block_room models model entries width places = sym (block_size models model) ∙ places.count
 
 pub block_begun : (models : List BlifModel) (model : BlifModel) (block : List Piece) (defs : List NamedDef)
     (none : List Piece) (ins outs start : ℕ) → none ≡ [] → defs ≡ model.defs

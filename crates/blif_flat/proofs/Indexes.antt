@@ -1,9 +1,10 @@
 -- Indexes of names, and names that are looked up in them.
 use Rattle.std.proofs.Common.{◌≡◌, ℕ, ◌+◌, ◌<◌, ◌||◌, ◌&&◌, Bool, true, false, not, cond, List, [], ◌∷◌, ◌++◌, map}
 use Rattle.std.proofs.Common.{take, drop, get_or, length, Bor, refl, sym, ap, ◌∙◌, append_assoc, drop-cons, add-one}
-use Rattle.std.specs.List.{list_any, list_all}
+use Rattle.std.specs.List.{list_any, list_all, IsDistinct}
 use Rattle.std.proofs.lemmas.List.{take_more, map-append}
 use Rattle.std.proofs.lemmas.Bool.{not-true, not-false}
+use Rattle.std.proofs.lemmas.Map.Keys.{IsDistinct-push}
 use Rattle.std.specs.Str.{bytes_eq}
 use Rattle.indexmap.specs.IndexSet.{insert_key, insert_all}
 use Rattle.blif_read.specs.Parts.{is_defined}
@@ -12,8 +13,11 @@ use Rattle.blif_read.specs.Code.Seen.{texts}
 use Rattle.blif_read.specs.declared.models.Named.{Named}
 use Rattle.blif_read.specs.declared.models.Port.{Port}
 use Rattle.blif_read.proofs.Adding.{any_append, again_same, same_swapped}
+use Rattle.blif_read.proofs.Distinct.{bytes_equiv}
 use Rattle.blif_read.proofs.Tokens.{any_seen, inserted_seen}
+use Rattle.blif_flat.specs.declared.models.names.Held.{Held}
 use Rattle.blif_flat.specs.Designs.{names_in}
+use Rattle.blif_flat.specs.Code.Indexing.{names_held}
 use Rattle.blif_flat.proofs.Numbering.{bytes_same}
 
 or_none : (a : Bool) → a || false ≡ a
@@ -73,6 +77,27 @@ next_named keys new names i item name whole lt is n k w =
     ap (λ ks. insert_all bytes_eq ks (names_in (drop (i + 1) names))) (put_key keys name new k
     ∙ ap (insert_key bytes_eq (texts keys)) n)
     ∙ ap (λ xs. insert_all bytes_eq (texts keys) (names_in xs)) (sym (drop_item names i item lt is)) ∙ w
+
+-- ---- names that are held
+
+-- names that are put in one by one differ
+inserted_distinct : (b : Bool) (ks : List (List ℕ)) (k : List ℕ) → list_any (bytes_eq k) ks ≡ b
+    → IsDistinct bytes_eq ks → IsDistinct bytes_eq (cond b ks (ks ++ k ∷ []))
+inserted_distinct true ks k e d = d
+inserted_distinct false ks k e d = IsDistinct-push bytes_equiv ks k d e
+
+all_distinct : (ks xs : List (List ℕ)) → IsDistinct bytes_eq ks → IsDistinct bytes_eq (insert_all bytes_eq ks xs)
+all_distinct ks [] d = d
+all_distinct ks (x ∷ xs) d = all_distinct (insert_key bytes_eq ks x) xs
+    (inserted_distinct (list_any (bytes_eq x) ks) ks x refl d)
+
+no_distinct : IsDistinct bytes_eq []
+unfolding IsDistinct
+no_distinct = tt
+
+pub held_distinct : (held : Held) (xs : List (List ℕ)) → names_held held ≡ insert_all bytes_eq [] xs
+    → IsDistinct bytes_eq (names_held held)
+held_distinct held xs e = rw e (all_distinct [] xs no_distinct)
 
 -- ---- one more formal
 

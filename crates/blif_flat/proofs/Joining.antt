@@ -216,18 +216,6 @@ port_step keys ps i number p seen at ports after d lt is n s a f h =
     f ∙ (λ j. noted (h j) ((a ∙ ap (λ t. position (bytes_eq t) keys) s) j) (size j))
     ∙ sym (port_more p.formal fs keys d) ∙ ap (ports_for keys) (sym more)
 
-each_text : (k : Bor (List ℕ)) (keys : List (Bor (List ℕ))) → AllByRecursion (λ x. bytes_eq k.now x.now ≡ false) keys
-    → AllByRecursion (λ t. bytes_eq k.now t ≡ false) (map (λ t. t.now) keys)
-each_text k [] h = tt
-each_text k (x ∷ xs) h = (h.0, each_text k xs h.1)
-
--- the keys of an index differ as texts
-pub texts_differ : (keys : List (Bor (List ℕ))) → IsDistinct (λ a b. bytes_eq a.now b.now) keys
-    → IsDistinct bytes_eq (map (λ t. t.now) keys)
-unfolding IsDistinct
-texts_differ [] d = tt
-texts_differ (k ∷ ks) d = (each_text k ks d.0, texts_differ ks d.1)
-
 -- ---- the signals of a caller that a call joins
 
 abbrev first_in : List Port → Option ℕ → List ℕ

@@ -1,7 +1,7 @@
 -- Tables of blocks, model by model in the order of calls.
 use Rattle.std.proofs.Common.{◌≡◌, ℕ, zero, suc, ◌+◌, ◌<◌, ◌^◌, ◌||◌, true, false, List, [], ◌∷◌, ◌++◌, map, length}
 use Rattle.std.proofs.Common.{take, get_or, slice_get, set, reverse, refl, sym, ap, ◌∙◌, subst, arith, inl, inr, Option}
-use Rattle.std.proofs.Common.{Some, None, flat_map, replicate, Bor, get_or-set_other, get_or-set_same, length-set}
+use Rattle.std.proofs.Common.{Some, None, flat_map, replicate, get_or-set_other, get_or-set_same, length-set}
 use Rattle.std.specs.Prelude.{nat_eq}
 use Rattle.std.specs.List.{AllByRecursion, IsDistinct}
 use Rattle.std.specs.Str.{bytes_eq}
@@ -18,7 +18,6 @@ use Rattle.blif_flat.specs.declared.expansion.pieces.Piece.{Piece}
 use Rattle.blif_flat.specs.declared.models.outlines.Outline.{Outline}
 use Rattle.blif_flat.specs.Code.Calls.{IsCallOrder}
 use Rattle.blif_flat.specs.Code.Blocks.{wide, block_names, pieces, AreNarrow, HasBlocks}
-use Rattle.blif_flat.specs.Code.Joins.{ArePlaces}
 use Rattle.blif_flat.specs.Code.Outlines.{IsOutline, HasOutline, IsOutlined, AreOutlined}
 use Rattle.blif_flat.proofs.Members.{apart_front}
 use Rattle.blif_flat.proofs.JoinedModels.{is_joined}
@@ -113,7 +112,7 @@ module _ (models : List BlifModel) (order : List ℕ) (i : ℕ) (o : IsCallOrder
       (subst (AllByRecursion (λ q. on (reverse (take i order)) q ≡ true)) (callees_at models here)
       (next_reads (callees models) order i 0 lt o.settled))
 
-  full_here : wide models (at models here) ≡ length (block_names (wide models) models (at models here))
+  pub full_here : wide models (at models here) ≡ length (block_names (wide models) models (at models here))
   full_here =
       let whole = next_done order i 0 lt in
       let s = subst (Settled 0 (callees models)) whole (settled_to (callees models) order (i + 1) o.settled) in
@@ -128,11 +127,6 @@ module _ (models : List BlifModel) (order : List ℕ) (i : ℕ) (o : IsCallOrder
       (λ n. wide models (at models n) < 2 ^ 32) order i 0 lt narrow in
       let full = full_here in
       omega arith
-
-  pub wide_is : (entries : List (Bor (List ℕ) × ℕ)) (width : ℕ)
-      → ArePlaces entries width (block_names (wide models) models (at models here))
-      → width ≡ wide models (at models here)
-  wide_is entries width places = sym (full_here ∙ places.count)
 
   pub inputs_distinct : AreJoined models → IsDistinct bytes_eq (names_in (at models here).inputs)
   inputs_distinct joined =

@@ -58,31 +58,36 @@ fn compare(
     }
 }
 
-/// The comparison in the variable order in which each input stands at its rank, where the two undo each other and the
-/// diagram is large enough for it.
+/// An order of variables: the inputs in this order, and the place of each input in it.
+#[derive(Clone, Copy)]
+struct VariableOrder<'a> {
+    inputs: &'a [u32],
+    rank: &'a [u32],
+}
+
+/// The comparison in a variable order, where its two lists undo each other and the diagram is large enough for it.
 fn compare_in(
     alloc: Global,
-    order: &[u32],
-    rank: &[u32],
+    order: &VariableOrder,
     gates: &[Gate],
     outputs: &[u32],
     other_gates: &[Gate],
     other_outputs: &[u32],
 ) -> Result<Option<Verdict>, Memory>
-    requires few { length rank.now < 2 ^ 32 }
-    requires first { IsCells (circuit (length rank.now) gates.now outputs.now) }
-    requires second { IsCells (circuit (length rank.now) other_gates.now other_outputs.now) }
+    requires few { length order.now.rank.now < 2 ^ 32 }
+    requires first { IsCells (circuit (length order.now.rank.now) gates.now outputs.now) }
+    requires second { IsCells (circuit (length order.now.rank.now) other_gates.now other_outputs.now) }
     requires outputs { length other_outputs.now ≡ length outputs.now }
     ensures { IfOk result (λ found. IfSome found
-        (IsVerdict (circuit (length rank.now) gates.now outputs.now)
-        (circuit (length rank.now) other_gates.now other_outputs.now))) }
+        (IsVerdict (circuit (length order.now.rank.now) gates.now outputs.now)
+        (circuit (length order.now.rank.now) other_gates.now other_outputs.now))) }
 {
-    if !undoes(order, rank) || !undoes(rank, order) {
+    if !undoes(order.inputs, order.rank) || !undoes(order.rank, order.inputs) {
         return Ok(None);
     }
-    let again = renumbered(alloc, gates, rank)?;
-    let other = renumbered(alloc, other_gates, rank)?;
-    let mut both = match Both::new(alloc, rank.len() as u32, &again, &other) {
+    let again = renumbered(alloc, gates, order.rank)?;
+    let other = renumbered(alloc, other_gates, order.rank)?;
+    let mut both = match Both::new(alloc, order.rank.len() as u32, &again, &other) {
         Ok(both) => both,
         Err(_) => return Ok(None),
     };
@@ -91,7 +96,7 @@ fn compare_in(
         Some(output) => {
             let left = edge_of(&both.first, outputs[output]);
             let right = edge_of(&both.second, other_outputs[output]);
-            match both.diagram.least_word_in(alloc, rank, left, right) {
+            match both.diagram.least_word_in(alloc, order.rank, left, right) {
                 Ok(word) => Ok(Some(Verdict::LeastDifference {
                     output: output as u32,
                     word,
@@ -115,17 +120,13 @@ pub fn decide(alloc: Global, a: &Cells, b: &Cells) -> Result<Verdict, DecideRefu
     let (gates, outputs) = (a.gates.as_slice(), a.outputs.as_slice());
     let (other_gates, other_outputs) = (b.gates.as_slice(), b.outputs.as_slice());
     // A diagram in an order that is mostly a good one; a refusal is justified by rising order alone.
-    let order = walked(alloc, a.inputs, gates, outputs)?;
-    let rank = ranks(alloc, a.inputs, &order)?;
-    match compare_in(
-        alloc,
-        &order,
-        &rank,
-        gates,
-        outputs,
-        other_gates,
-        other_outputs,
-    )? {
+    let inputs = walked(alloc, a.inputs, gates, outputs)?;
+    let rank = ranks(alloc, a.inputs, &inputs)?;
+    let order = VariableOrder {
+        inputs: &inputs,
+        rank: &rank,
+    };
+    match compare_in(alloc, &order, gates, outputs, other_gates, other_outputs)? {
         Some(verdict) => Ok(verdict),
         None => compare(alloc, a.inputs, gates, outputs, other_gates, other_outputs),
     }

@@ -124,16 +124,20 @@ fn item_at<T: Copy>(rows: &[List<T>], row: usize, item: usize) -> Option<T>
     }
 }
 
-/// Whether a cell in row `number`, over a row with these marks, is what its mark tells.
-fn is_marked(
-    net: &[List<RowCell>],
-    became: &[u32],
+/// Where a row of the wider net stands: what a net became, the number of the row, and the marks of the row below it.
+#[derive(Clone, Copy)]
+struct RowBelow<'a> {
+    net: &'a [List<RowCell>],
+    became: &'a [u32],
+    places: &'a [List<Place>],
     number: usize,
-    below: &[Mark],
-    cell: &RowCell,
-    mark: Mark,
-) -> bool
-    ensures { result ≡ is_marked net.now became.now number below.now cell.now mark.row mark.cell mark.carried }
+    marks: &'a [Mark],
+}
+
+/// Whether a cell of a row is what its mark tells.
+fn is_marked(below: &RowBelow<'_>, cell: &RowCell, mark: Mark) -> bool
+    ensures { result ≡ is_marked below.now.net.now below.now.became.now below.now.number below.now.marks.now cell.now
+        mark.row mark.cell mark.carried }
 {
     match mark.carried {
         Some(output) => {
@@ -141,11 +145,11 @@ fn is_marked(
                 cell: mark.cell,
                 output,
             };
-            is_added(below, cell, mark.row, target)
+            is_added(below.marks, cell, mark.row, target)
         }
         None => {
-            let own = item_at(net, mark.row as usize, mark.cell as usize);
-            is_kept(became, number, below, cell, mark.row, own)
+            let own = item_at(below.net, mark.row as usize, mark.cell as usize);
+            is_kept(below.became, below.number, below.marks, cell, mark.row, own)
         }
     }
 }
@@ -170,40 +174,25 @@ fn has_place(places: &[List<Place>], row: usize, cell: usize, mark: Mark) -> boo
 
 /// Whether a cell is what its mark tells, and no other cell of the wider net is that.
 #[tactic(auto, unfolding(crate::specs::Wider::fits_mark))]
-fn fits_mark(
-    net: &[List<RowCell>],
-    became: &[u32],
-    places: &[List<Place>],
-    number: usize,
-    below: &[Mark],
-    place: usize,
-    cell: &RowCell,
-    mark: Mark,
-) -> bool
-    ensures { result ≡ fits_mark net.now became.now places.now number below.now place cell.now mark }
+fn fits_mark(below: &RowBelow<'_>, place: usize, cell: &RowCell, mark: Mark) -> bool
+    ensures { result ≡ fits_mark below.now.net.now below.now.became.now below.now.places.now below.now.number
+        below.now.marks.now place cell.now mark }
 {
-    let is_told = is_marked(net, became, number, below, cell, mark);
-    is_told && has_place(places, number, place, mark)
+    let is_told = is_marked(below, cell, mark);
+    is_told && has_place(below.places, below.number, place, mark)
 }
 
-/// Whether the cells of row `number`, over a row with these marks, are what their own marks tell, each in its place.
-fn row_marked(
-    net: &[List<RowCell>],
-    became: &[u32],
-    places: &[List<Place>],
-    number: usize,
-    below: &[Mark],
-    cells: &[RowCell],
-    marks: &[Mark],
-) -> bool
-    ensures { result ≡ row_marked net.now became.now places.now number below.now 0 cells.now marks.now }
+/// Whether the cells of a row are what their own marks tell, each in its place.
+fn row_marked(below: &RowBelow<'_>, cells: &[RowCell], marks: &[Mark]) -> bool
+    ensures { result ≡ row_marked below.now.net.now below.now.became.now below.now.places.now below.now.number
+        below.now.marks.now 0 cells.now marks.now }
 {
     if cells.len() != marks.len() {
         return false;
     }
     for (place, cell) in cells.iter().enumerate() {
         let mark = marks[place];
-        if !fits_mark(net, became, places, number, below, place, cell, mark) {
+        if !fits_mark(below, place, cell, mark) {
             return false;
         }
     }
@@ -226,7 +215,14 @@ fn rows_marked(
     let mut below: &[Mark] = &[];
     for (number, row) in rows.iter().enumerate() {
         let own = marks[number].as_slice();
-        if !row_marked(net, became, places, number, below, row.as_slice(), own) {
+        let stand = RowBelow {
+            net,
+            became,
+            places,
+            number,
+            marks: below,
+        };
+        if !row_marked(&stand, row.as_slice(), own) {
             return false;
         }
         below = own;

@@ -1,8 +1,8 @@
 -- Sizes and heights are at most as many as there are nodes.
 use Rattle.std.proofs.Common.{◌≡◌, ℕ, ◌+◌, ◌-◌, ◌*◌, ◌<◌, ◌≤◌, List, length, arith, sym, ◌∙◌}
 use Rattle.std.proofs.lemmas.List.Sums.{get_or-le-sum_by}
-use Rattle.union_find.specs.Forests.{Forest, HasHeights}
-use Rattle.union_find.specs.Code.Shapes.{IsShaped, AreSizes, IsForest, IsOnWay, IsFound}
+use Rattle.union_find.specs.Forests.{Forest, Tables, trees, HasHeights}
+use Rattle.union_find.specs.Code.Shapes.{IsShaped, AreSizes, IsForest, AreTables, IsOnWay, IsFound}
 
 root_few : (f : Forest) (sizes : List ℕ) → AreSizes f sizes → (r : ℕ) → r < f.count → f.parent r ≡ r
     → f.size r ≤ f.count
@@ -30,19 +30,19 @@ pub record Step (f : Forest) (node at gained : ℕ) : Type 0 where
   pub least : f.count ≤ gained + f.above at
   pub next : IsOnWay f node (f.parent at) (gained + f.above at - f.count)
 
-pub step : (f : Forest) (node at gained : ℕ) → IsForest f → node < f.count → IsOnWay f node at gained
-    → Step f node at gained
-step f node at gained known within way =
+pub step : (f : Forest) (node at gained : ℕ) → IsForest f → IsOnWay f node at gained → Step f node at gained
+step f node at gained known way =
     let s = known.shaped in
     let next_below = s.parent_below at way.below in
     let linked = s.obeys.linked at way.below in
     let so_far = (way.shaped known.h known.root s).1 in
-    let few = height_few f known.h known.root known.sizes s known.sized node within in
+    let few = height_few f known.h known.root known.sizes s known.sized node way.from in
     let few_next = height_few f known.h known.root known.sizes s known.sized (f.parent at) next_below in
     record {
       most = omega (arith, linked, so_far, few);
       least = omega (arith, linked, so_far, few_next);
       next = record {
+        from = way.from;
         below = next_below;
         shaped = λ h root shaped.
             let here = way.shaped h root shaped in
@@ -66,18 +66,24 @@ pub record AtRoot (f : Forest) (node at gained : ℕ) : Type 0 where
   pub least : f.count ≤ f.height at + gained
   pub found : IsFound f node at (f.height at + gained - f.count)
 
-pub at_the_root : (f : Forest) (node at gained : ℕ) → IsForest f → node < f.count → IsOnWay f node at gained
-    → f.parent at ≡ at → AtRoot f node at gained
-at_the_root f node at gained known within way is =
+pub at_the_root : (t : Tables) (node at gained : ℕ) → AreTables t → IsOnWay (trees t) node at gained
+    → (trees t).parent at ≡ at → AtRoot (trees t) node at gained
+at_the_root t node at gained tables way is =
+    let f = trees t in
+    let known = tables.known in
     let s = known.shaped in
     let top = s.height_is at way.below is in
     let so_far = (way.shaped known.h known.root s).1 in
-    let few = height_few f known.h known.root known.sizes s known.sized node within in
+    let within = height_few f known.h known.root known.sizes s known.sized node way.from in
     record {
-      most = omega (arith, top, so_far, few);
+      most = omega (arith, top, so_far, within);
       least = omega (arith, top, so_far);
       found = record {
+        known = known;
+        few = tables.few;
+        from = way.from;
         below = way.below;
+        within = omega (arith, top, so_far, within);
         is_root = is;
         shaped = λ h root shaped.
             let here = way.shaped h root shaped in

@@ -4,7 +4,7 @@ use Rattle.std.specs.Prelude.{slice_index, slice_set, replicate}
 use Rattle.std.proofs.lemmas.Bool.{cases_eq}
 use Rattle.std.proofs.lemmas.List.{get_or-set_same, get_or-set_other, length-set, get_or-replicate, length-replicate}
 use Rattle.std.proofs.lemmas.List.Folds.{sum_by-replicate}
-use Rattle.union_find.specs.Forests.{Forest, forest, Obeys}
+use Rattle.union_find.specs.Forests.{Forest, Tables, trees, Obeys}
 use Rattle.union_find.specs.Code.Shapes.{IsShaped, AreTables}
 use Rattle.union_find.proofs.Hanging.{at, at_there, at_apart}
 
@@ -77,10 +77,9 @@ fresh_shape f n fresh =
           omega (arith, low, high);
     }
 
-fresh_tables : (parent above height size : List ℕ) (n : ℕ) → n < 2 ^ 32 → length parent ≡ n → length above ≡ n
-    → length height ≡ n → length size ≡ n → IsFresh (forest parent above height size) n
-    → AreTables parent above height size
-fresh_tables parent above height size n few pl al hl sl fresh =
+fresh_tables : (t : Tables) (n : ℕ) → n < 2 ^ 32 → length t.parent ≡ n → length t.above ≡ n → length t.height ≡ n
+    → length t.size ≡ n → IsFresh (trees t) n → AreTables t
+fresh_tables t n few pl al hl sl fresh =
     let ones : List ℕ = replicate n 1 in
     record {
       few = omega (arith, pl);
@@ -91,7 +90,7 @@ fresh_tables parent above height size n few pl al hl sl fresh =
         h = height_at;
         root = λ s. s;
         sizes = ones;
-        shaped = fresh_shape (forest parent above height size) n fresh;
+        shaped = fresh_shape (trees t) n fresh;
         sized = record {
           long = length-replicate n 1 ∙ sym pl;
           all =
@@ -105,16 +104,24 @@ fresh_tables parent above height size n few pl al hl sl fresh =
     }
 
 -- the tables that are made
-record Made (parent : List ℕ) (n : ℕ) : Type 0 where
-  long : length parent ≡ n
-  each : (k : ℕ) → k < n → slice_index parent k ≡ k
+abbrev made : List ℕ → ℕ → Tables
+made parent n = record {
+  parent = parent;
+  above = replicate n n;
+  height = slice_set (replicate n 1) 0 0;
+  size = replicate n 1;
+}
 
-made_fresh : (parent : List ℕ) (n : ℕ) → Made parent n → 0 < n
-    → IsFresh (forest parent (replicate n n) (slice_set (replicate n 1) 0 0) (replicate n 1)) n
-made_fresh parent n made some = record {
+-- the parents of single nodes: each node's is itself
+abbrev AreOwn : List ℕ → ℕ → Type 0
+AreOwn parent n = (k : ℕ) → k < n → slice_index parent k ≡ k
+
+made_fresh : (parent : List ℕ) (n : ℕ) → length parent ≡ n → AreOwn parent n → 0 < n
+    → IsFresh (trees (made parent n)) n
+made_fresh parent n long each some = record {
   some = some;
-  count_is = made.long;
-  parent_is = made.each;
+  count_is = long;
+  parent_is = each;
   above_is = λ s lt. get_or-replicate n s n 0 lt;
   height_0 =
       get_or-set_same (replicate {A = ℕ} n 1) 0 0 0 (let long = length-replicate {A = ℕ} n 1 in omega (arith, long));
@@ -123,17 +130,13 @@ made_fresh parent n made some = record {
   size_is = λ s lt. get_or-replicate n s 1 0 lt;
 }
 
-pub made_tables : (parent : List ℕ) (n : ℕ) → length parent ≡ n → ((k : ℕ) → k < n → slice_index parent k ≡ k)
-    → 0 < n → n < 2 ^ 32
-    → AreTables parent (replicate n n) (slice_set (replicate n 1) 0 0) (replicate n 1)
+pub made_tables : (parent : List ℕ) (n : ℕ) → length parent ≡ n → AreOwn parent n → 0 < n → n < 2 ^ 32
+    → AreTables (made parent n)
 made_tables parent n long each some few =
-    fresh_tables parent (replicate n n) (slice_set (replicate n 1) 0 0) (replicate n 1) n few long
-    (length-replicate n n) (length-set (replicate n 1) 0 0 ∙ length-replicate n 1) (length-replicate n 1)
-    (made_fresh parent n (record { long = long; each = each }) some)
+    fresh_tables (made parent n) n few long (length-replicate n n)
+    (length-set (replicate n 1) 0 0 ∙ length-replicate n 1) (length-replicate n 1) (made_fresh parent n long each some)
 
-pub made_obeys : (parent : List ℕ) (n : ℕ) → length parent ≡ n → ((k : ℕ) → k < n → slice_index parent k ≡ k) → 0 < n
-    → (h : ℕ → ℕ) → h 0 ≡ 0 → ((s : ℕ) → 0 < s → s < n → 0 < h s)
-    → Obeys (forest parent (replicate n n) (slice_set (replicate n 1) 0 0) (replicate n 1)) h
+pub made_obeys : (parent : List ℕ) (n : ℕ) → length parent ≡ n → AreOwn parent n → 0 < n
+    → (h : ℕ → ℕ) → h 0 ≡ 0 → ((s : ℕ) → 0 < s → s < n → 0 < h s) → Obeys (trees (made parent n)) h
 made_obeys parent n long each some h base positive =
-    fresh_obeys (forest parent (replicate n n) (slice_set (replicate n 1) 0 0) (replicate n 1)) n
-    (made_fresh parent n (record { long = long; each = each }) some) h base positive
+    fresh_obeys (trees (made parent n)) n (made_fresh parent n long each some) h base positive

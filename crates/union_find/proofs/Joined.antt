@@ -3,8 +3,9 @@ use Rattle.std.proofs.Common.{◌≡◌, ℕ, ◌+◌, ◌<◌, ◌≤◌, List,
 use Rattle.std.specs.Prelude.{slice_index}
 use Rattle.std.proofs.lemmas.Bool.{cases_eq}
 use Rattle.union_find.specs.Forests.{Forest, Obeys, IsJoined, IsRefused, AreLeast}
-use Rattle.union_find.specs.Code.Shapes.{IsShaped, IsForest, MayBeHung, IsFound, Hangs, Unites, Rises, IsGrounded}
-use Rattle.union_find.proofs.Bounds.{height_few}
+use Rattle.union_find.specs.Code.Shapes.{IsShaped, IsForest, MayHang, MayBeHung, IsFound, Unites, Rises}
+use Rattle.union_find.specs.Code.Shapes.{IsGrounded}
+use Rattle.union_find.proofs.Written.{room_of}
 
 -- two nodes that are to be joined: their roots and heights, as they are found, and the root of the ground
 pub record Ends : Type 0 where
@@ -17,9 +18,6 @@ pub record Ends : Type 0 where
   pub upper_height : ℕ
   pub lower_height : ℕ
   pub ground : ℕ
-  pub known : IsForest trees
-  pub upper_below : upper < trees.count
-  pub lower_below : lower < trees.count
   pub rise_few : rise ≤ 1
   pub high : IsFound trees upper upper_root upper_height
   pub low : IsFound trees lower lower_root lower_height
@@ -36,14 +34,14 @@ node_positive f h root shaped s lt apart = elim (cases_eq s 0) [
   | inr ne ↦ shaped.obeys.positive s (omega (arith, ne)) lt
 ]
 
-may_be_hung : (x : Ends) (ya yb : ℕ) → (x.upper_root ≡ x.lower_root → ⊥) → AreRises x x.upper_root x.lower_root ya yb
-    → MayBeHung x.trees x.upper_root x.lower_root ya yb
-may_be_hung x ya yb apart up h root shaped =
+may_hang : (x : Ends) (ya yb : ℕ) → (x.upper_root ≡ x.lower_root → ⊥) → AreRises x x.upper_root x.lower_root ya yb
+    → (h root : ℕ → ℕ) → IsShaped x.trees h root → MayHang x.trees h root x.upper_root x.lower_root ya yb
+may_hang x ya yb apart up h root shaped =
     let high = x.high.shaped h root shaped in
     let low = x.low.shaped h root shaped in
     let g = x.is_ground h root shaped in
-    let in_a = shaped.within x.upper x.upper_below in
-    let in_b = shaped.within x.lower x.lower_below in
+    let in_a = shaped.within x.upper x.high.from in
+    let in_b = shaped.within x.lower x.low.from in
     let size_a : x.trees.size (root x.upper) ≡ x.trees.size x.upper_root = ap x.trees.size high.0 in
     let size_b : x.trees.size (root x.lower) ≡ x.trees.size x.lower_root = ap x.trees.size low.0 in
     let meet = up.meet in
@@ -56,7 +54,7 @@ may_be_hung x ya yb apart up h root shaped =
       r_rises = elim (cases_eq x.ground x.upper_root) [
         | inl is ↦ let none = up.a_ground is in omega (arith, none)
         | inr ne ↦
-            let some = node_positive x.trees h root shaped x.upper x.upper_below (λ p. ne (sym g ∙ sym p ∙ high.0)) in
+            let some = node_positive x.trees h root shaped x.upper x.high.from (λ p. ne (sym g ∙ sym p ∙ high.0)) in
             elim up.one [
               | inl none ↦ omega (arith, none)
               | inr none ↦ let few = x.rise_few in omega (arith, none, meet, some, high.1, low.1, in_b, size_b)
@@ -72,14 +70,13 @@ may_be_hung x ya yb apart up h root shaped =
     }
 
 -- heights of two nodes, by those of their roots
-by_root : {f : Forest} {s r n : ℕ} → IsForest f → (k : ℕ → ℕ) → Obeys f k → s < f.count → IsFound f s r n
-    → k s + f.height r ≡ k r + n
-by_root {f} {s} {r} {n} known k obeys lt found =
-    let shaped = known.shaped in
-    let is = found.shaped known.h known.root shaped in
+by_root : {f : Forest} {s r n : ℕ} → (k : ℕ → ℕ) → Obeys f k → IsFound f s r n → k s + f.height r ≡ k r + n
+by_root {f} {s} {r} {n} k obeys found =
+    let shaped = found.known.shaped in
+    let is = found.shaped found.known.h found.known.root shaped in
     let here = shaped.at_root r found.below found.is_root in
     let top = shaped.height_is r found.below found.is_root in
-    let same = shaped.together k obeys s r lt found.below (is.0 ∙ sym here) in
+    let same = shaped.together k obeys s r found.from found.below (is.0 ∙ sym here) in
     omega (arith, same, top, is.1)
 
 joined : (x : Ends) (g : Forest) (ya yb : ℕ) → AreRises x x.upper_root x.lower_root ya yb
@@ -91,13 +88,13 @@ joined x g ya yb up unites =
       back = unites.back;
       higher = λ k obeys.
           let old = unites.back k obeys in
-          let one = by_root x.known k old x.upper_below x.high in
-          let two = by_root x.known k old x.lower_below x.low in
+          let one = by_root k old x.high in
+          let two = by_root k old x.low in
           let differ = unites.differ k obeys in
           omega (arith, one, two, differ, meet);
       forth = λ k old higher.
-          let one = by_root x.known k old x.upper_below x.high in
-          let two = by_root x.known k old x.lower_below x.low in
+          let one = by_root k old x.high in
+          let two = by_root k old x.low in
           unites.forth k old (omega (arith, one, two, higher, meet));
     }
 
@@ -105,10 +102,10 @@ joined x g ya yb up unites =
 same_tree : (x : Ends) → x.upper_root ≡ x.lower_root → (k : ℕ → ℕ) → Obeys x.trees k
     → k x.upper + x.lower_height ≡ k x.lower + x.upper_height
 same_tree x same k obeys =
-    let s = x.known.shaped in
-    let high = x.high.shaped x.known.h x.known.root s in
-    let low = x.low.shaped x.known.h x.known.root s in
-    let t = s.together k obeys x.upper x.lower x.upper_below x.lower_below (high.0 ∙ same ∙ sym low.0) in
+    let s = x.high.known.shaped in
+    let high = x.high.shaped x.high.known.h x.high.known.root s in
+    let low = x.low.shaped x.high.known.h x.high.known.root s in
+    let t = s.together k obeys x.upper x.lower x.high.from x.low.from (high.0 ∙ same ∙ sym low.0) in
     omega (arith, t, high.1, low.1)
 
 pub joined_there : (x : Ends) → x.upper_root ≡ x.lower_root → x.upper_height ≡ x.lower_height + x.rise
@@ -159,19 +156,21 @@ fixed f h root shaped k known s lt e =
 refused_at : (x : Ends) → IsGrounded x.upper_root x.lower_root x.upper_height (x.lower_height + x.rise) x.ground
     → (k : ℕ → ℕ) → Obeys x.trees k → k x.upper ≡ k x.lower + x.rise → ⊥
 refused_at x grounded k obeys higher =
-    let s = x.known.shaped in
-    let high = x.high.shaped x.known.h x.known.root s in
-    let low = x.low.shaped x.known.h x.known.root s in
-    let g = x.is_ground x.known.h x.known.root s in
-    let high_least = at_least x.trees x.known.h x.known.root s k obeys x.upper x.upper_below in
-    let low_least = at_least x.trees x.known.h x.known.root s k obeys x.lower x.lower_below in
+    let s = x.high.known.shaped in
+    let h = x.high.known.h in
+    let root = x.high.known.root in
+    let high = x.high.shaped h root s in
+    let low = x.low.shaped h root s in
+    let g = x.is_ground h root s in
+    let high_least = at_least x.trees h root s k obeys x.upper x.high.from in
+    let low_least = at_least x.trees h root s k obeys x.lower x.low.from in
     elim grounded [
       | inl p ↦
-          let is = fixed x.trees x.known.h x.known.root s k obeys x.upper x.upper_below (high.0 ∙ sym p.0 ∙ sym g) in
+          let is = fixed x.trees h root s k obeys x.upper x.high.from (high.0 ∙ sym p.0 ∙ sym g) in
           let less = p.1 in
           omega (arith, is, less, low_least, higher, high.1, low.1)
       | inr p ↦
-          let is = fixed x.trees x.known.h x.known.root s k obeys x.lower x.lower_below (low.0 ∙ sym p.0 ∙ sym g) in
+          let is = fixed x.trees h root s k obeys x.lower x.low.from (low.0 ∙ sym p.0 ∙ sym g) in
           let less = p.1 in
           omega (arith, is, less, high_least, higher, high.1, low.1)
     ]
@@ -206,42 +205,30 @@ are_least f heights known long each =
           omega (arith, here, l);
     }
 
--- what is found
+abbrev pub ends_of : {f : Forest} {upper lower rise a b e d base n : ℕ} → rise ≤ 1 → IsFound f upper a e
+    → IsFound f lower b d → IsFound f 0 base n → Ends
+ends_of {f} {upper} {lower} {rise} {a} {b} {e} {d} {base} {n} few high low found = record {
+  trees = f;
+  upper = upper;
+  lower = lower;
+  rise = rise;
+  upper_root = a;
+  lower_root = b;
+  upper_height = e;
+  lower_height = d;
+  ground = base;
+  rise_few = few;
+  high = high;
+  low = low;
+  is_ground = λ h root shaped. (found.shaped h root shaped).0;
+}
 
-pub found_few : (f : Forest) (node r n : ℕ) → IsForest f → node < f.count → IsFound f node r n → n ≤ f.count
-found_few f node r n known lt found =
-    let is = found.shaped known.h known.root known.shaped in
-    let few = height_few f known.h known.root known.sizes known.shaped known.sized node lt in
-    omega (arith, few, is.1)
-
-abbrev pub ends_of : {f : Forest} {upper lower rise a b e d base n : ℕ} → IsForest f → upper < f.count → lower < f.count
-    → rise ≤ 1 → IsFound f upper a e → IsFound f lower b d → IsFound f 0 base n → Ends
-ends_of {f} {upper} {lower} {rise} {a} {b} {e} {d} {base} {n} known upper_below lower_below few high low
-    found = record {
-      trees = f;
-      upper = upper;
-      lower = lower;
-      rise = rise;
-      upper_root = a;
-      lower_root = b;
-      upper_height = e;
-      lower_height = d;
-      ground = base;
-      known = known;
-      upper_below = upper_below;
-      lower_below = lower_below;
-      rise_few = few;
-      high = high;
-      low = low;
-      is_ground = λ h root shaped. (found.shaped h root shaped).0;
-    }
-
-pub turned : (f g : Forest) (r c yr yc : ℕ) → Hangs f g c r yc yr → Unites f g r c yr yc
-turned f g r c yr yc hangs = record {
-  count_is = hangs.count_is;
-  back = hangs.back;
-  differ = λ k obeys. sym (hangs.differ k obeys);
-  forth = λ k obeys d. hangs.forth k obeys (sym d);
+pub turned : (f g : Forest) (r c yr yc : ℕ) → Unites f g c r yc yr → Unites f g r c yr yc
+turned f g r c yr yc unites = record {
+  count_is = unites.count_is;
+  back = unites.back;
+  differ = λ k obeys. sym (unites.differ k obeys);
+  forth = λ k obeys d. unites.forth k obeys (sym d);
 }
 
 -- the same, for the roots as they are told
@@ -259,7 +246,7 @@ told up = record {
 pub told_may : (x : Ends) {r c ya yb : ℕ} → (x.upper_root ≡ x.lower_root → ⊥) → AreRises x r c ya yb
     → MayBeHung x.trees r c ya yb
 told_may x {r} {c} {ya} {yb} apart up =
-    let may = may_be_hung x ya yb apart (told up) in
+    let may = room_of x.trees x.upper_root x.lower_root ya yb x.high.known (may_hang x ya yb apart (told up)) in
     subst (λ (n : ℕ). MayBeHung x.trees n c ya yb) (sym up.first)
     (subst (λ (n : ℕ). MayBeHung x.trees x.upper_root n ya yb) (sym up.second) may)
 

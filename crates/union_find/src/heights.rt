@@ -1,9 +1,9 @@
 // Heights of nodes, of which some are known to differ by none or one.
-ghost use Rattle.std.specs.Prelude.{◌≡◌, ◌≤◌, ◌<◌, ◌^◌, ℕ, length, true, false, slice_index, slice_set, replicate};
-ghost use Rattle.std.specs.Prelude.{IfOk};
+ghost use Rattle.std.specs.Prelude.{◌≡◌, ◌≤◌, ◌<◌, ℕ, length, true, false, slice_index, slice_set, replicate, IfOk};
 ghost use Rattle.union_find.specs.Forests.{trees, Obeys, HasHeights, IsJoined, IsRefused, AreLeast};
+ghost use Rattle.union_find.specs.Code.Shapes.{IsForest, IsFound, MayBeHung, Unites};
 
-use crate::tables::{join, least};
+use crate::tables::{Found, Lifted, find, hang, rises};
 use aq_base::Memory;
 use std::alloc::Global;
 use std::marker::Model;
@@ -22,18 +22,13 @@ pub struct Heights {
 
 impl Model for Heights {
     ghost use Rattle.union_find.specs.Forests.{Tables};
-    ghost use Rattle.union_find.specs.Code.Shapes.{AreTables};
+    ghost use Rattle.union_find.specs.Code.Shapes.{tables_of, AreTables};
 
     ghost Value = { Tables };
 
-    ghost view = { λ t. record {
-      parent = t.parent.items;
-      above = t.above.items;
-      height = t.height.items;
-      size = t.size.items;
-    } };
+    ghost view = { λ t. tables_of t.parent.items t.above.items t.height.items t.size.items };
 
-    ghost invariant = { λ t. AreTables t.parent.items t.above.items t.height.items t.size.items };
+    ghost invariant = { λ t. AreTables (tables_of t.parent.items t.above.items t.height.items t.size.items) };
 }
 
 /// The numbers below a count.
@@ -93,6 +88,49 @@ impl Heights {
         let _parent = &self.parent;
     }
 
+    /// How many nodes there are.
+    fn count(&self) -> u32
+        ensures count { result ≡ (trees self.now).count }
+        ensures known { IsForest (trees self.now) }
+    {
+        self.parent.len() as u32
+    }
+
+    /// The root of a node, and the node's height.
+    fn find(&self, node: u32) -> Found
+        requires { node < (trees self.now).count }
+        ensures { IsFound (trees self.now) node result.root result.height }
+    {
+        find(&self.parent, &self.above, &self.height, &self.size, node)
+    }
+
+    /// Hangs the tree of a root on another root.
+    fn hang(&mut self, low: Lifted, high: Lifted)
+        requires { MayBeHung (trees self.old) low.root high.root low.rise high.rise }
+        ensures { Unites (trees self.old) (trees self.new) low.root high.root low.rise high.rise }
+    {
+        hang(
+            &mut self.parent,
+            &mut self.above,
+            &mut self.height,
+            &mut self.size,
+            low,
+            high,
+        )
+    }
+
+    /// Hangs the smaller of two trees on the root of the other.
+    fn hang_smaller(&mut self, one: Lifted, other: Lifted)
+        requires { MayBeHung (trees self.old) one.root other.root one.rise other.rise }
+        ensures { Unites (trees self.old) (trees self.new) one.root other.root one.rise other.rise }
+    {
+        if self.size[other.root as usize] <= self.size[one.root as usize] {
+            self.hang(one, other);
+        } else {
+            self.hang(other, one);
+        }
+    }
+
     /// Adds that a node is so much higher than another one, by none or one. Where no heights are so, it answers false.
     pub fn join(&mut self, upper: u32, lower: u32, rise: u64) -> bool
         requires upper { upper < (trees self.old).count }
@@ -102,21 +140,31 @@ impl Heights {
         ensures refused { result ≡ false → IsRefused (trees self.old) upper lower rise }
         ensures count { (trees self.new).count ≡ (trees self.old).count }
     {
-        join(
-            &mut self.parent,
-            &mut self.above,
-            &mut self.height,
-            &mut self.size,
-            upper,
-            lower,
-            rise,
-        )
+        let high = self.find(upper);
+        let low = self.find(lower);
+        let base = self.find(0);
+        let wanted = low.height + rise;
+        if high.root == low.root {
+            return high.height == wanted;
+        }
+        match rises(high, low, wanted, base.root) {
+            Some((one, other)) => {
+                self.hang_smaller(one, other);
+                true
+            }
+            None => false,
+        }
     }
 
     /// The least heights that are as is known.
     pub fn least(&self, alloc: Global) -> Result<Vec<u64>, Memory>
         ensures { IfOk result (λ heights. AreLeast (trees self.now) heights.items) }
     {
-        least(alloc, &self.parent, &self.above, &self.height, &self.size)
+        let count = self.count();
+        let mut heights = Vec::with_capacity(alloc, count as usize)?;
+        for node in 0..count {
+            heights.push(self.find(node).height)?;
+        }
+        Ok(heights)
     }
 }

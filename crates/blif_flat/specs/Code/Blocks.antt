@@ -39,9 +39,25 @@ abbrev pub block_width : ℕ → List BlifModel → BlifModel → ℕ
 block_width zero models model = 0
 block_width (suc steps) models model = length (block_names (block_width steps models) models model)
 
+-- the width of a model's block
+abbrev pub wide : List BlifModel → BlifModel → ℕ
+wide models model = block_width (length models) models model
+
 -- where a name stands in a model's block, from its first wire on, where models are so wide
 abbrev pub place : (BlifModel → ℕ) → List BlifModel → BlifModel → List ℕ → ℕ
 place width models model name = position_or_len (is_that name) (block_names width models model)
+
+-- a model, in a design
+pub record ModelIn : Type 0 where
+  pub models : List BlifModel
+  pub model : BlifModel
+
+-- the names that it has for the wires of its block, and where a name stands there
+abbrev pub names_of : ModelIn → List (Option (List ℕ))
+names_of m = block_names (wide m.models) m.models m.model
+
+abbrev pub place_in : ModelIn → List ℕ → ℕ
+place_in m = place (wide m.models) m.models m.model
 
 -- a definition of a model, by places
 abbrev pub placed : (List ℕ → ℕ) → NamedDef → Def
@@ -128,10 +144,6 @@ turns_left blocks [] = 0
 turns_left blocks (f ∷ fs) =
     1 + sum_by (piece_turns (turns blocks (length blocks))) (drop f.next (slice_index_or blocks f.model []))
     + turns_left blocks fs
-
--- the width of a model's block
-abbrev pub wide : List BlifModel → BlifModel → ℕ
-wide models model = block_width (length models) models model
 
 -- 32 bits hold the places of each of these models
 abbrev pub AreNarrow : List BlifModel → List ℕ → Type 0

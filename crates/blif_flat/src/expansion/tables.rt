@@ -1,56 +1,38 @@
 // The blocks of the models of a design, model by model in the order of calls.
-ghost use Rattle.std.specs.Prelude.{◌≡◌, ℕ, ◌<◌, List as Items, [], map, length, reverse, replicate, Option as Maybe};
-ghost use Rattle.std.specs.Prelude.{IfOk, slice_index_or};
-ghost use Rattle.std.specs.List.{position_or_len, IsDistinct};
+ghost use Rattle.std.specs.Prelude.{◌≡◌, ◌<◌, [], map, length, reverse, replicate, IfOk};
+ghost use Rattle.std.specs.List.{IsDistinct};
 ghost use Rattle.std.specs.Str.{bytes_eq};
-ghost use Rattle.blif_read.specs.Code.Seen.{texts};
 ghost use Rattle.blif_read.specs.Netlist.{AreParts};
-ghost use Rattle.blif_read.specs.declared.models.BlifModel.{BlifModel as Model};
 ghost use Rattle.blif_flat.specs.Designs.{names_in};
 ghost use Rattle.blif_flat.specs.DesignFaults.{AreJoined};
 ghost use Rattle.blif_flat.specs.DesignText.{IsLaidOut};
 ghost use Rattle.blif_flat.specs.Expansion.{expansion};
 ghost use Rattle.blif_flat.specs.Code.Calls.{IsCallOrder};
-ghost use Rattle.blif_flat.specs.Code.Blocks.{is_that, wide, block_names, AreNarrow, HasBlocks};
-ghost use Rattle.blif_flat.specs.Code.Joins.{ArePlaces};
+ghost use Rattle.blif_flat.specs.Code.Blocks.{wide, names_of, place_in, AreNarrow, HasBlocks};
 ghost use Rattle.blif_flat.specs.Code.Outlines.{IsOutline};
 
 use crate::expansion::assembly::block_of;
 use crate::expansion::layout::lay_out;
 use crate::expansion::pieces::Block;
-use crate::models::indexed::{Design, IndexedModel, Names};
-use crate::models::joins::place_of;
-use crate::models::numbers::Numbers;
-use crate::models::outlines::{Outline, places_of};
+use crate::models::indexed::{Design, IndexedModel};
+use crate::models::names::Names;
+use crate::models::outlines::{ModelPlaces, Outline};
 use aq_base::{List, Memory};
 use blif_read::{BlifModel, Def};
 use name_hash::NameHash;
 use std::alloc::Global;
 
-/// The name of a number; empty past the last.
-fn name_at<'b>(names: &'b Names<'_>, number: usize) -> &'b [u8]
-    ensures { result.now ≡ slice_index_or (texts names.now.keys) number [] }
-{
-    match names.get_index(number) {
-        Some(name) => name,
-        None => &[],
-    }
-}
-
 /// The places of names.
 fn exits_of(
     alloc: Global,
-    places: &Numbers<'_>,
-    width: u32,
+    places: &ModelPlaces<'_, '_>,
     names: &Names<'_>,
 ) -> Result<Vec<u32>, Memory>
-    ensures { (known : Items (Maybe (Items ℕ))) → ArePlaces places.now.entries width known
-        → IfOk result (λ exits. exits.items
-        ≡ map (λ t. position_or_len (is_that t) known) (texts names.now.keys)) }
+    ensures { IfOk result (λ exits. exits.items ≡ map (place_in places.now) names.now) }
 {
     let mut exits = Vec::new(alloc);
     for number in 0..names.len() {
-        let place = place_of(places, width, name_at(names, number));
+        let place = places.place(names.at(number));
         exits.push(place)?;
     }
     Ok(exits)
@@ -59,16 +41,19 @@ fn exits_of(
 /// The outline of a model, whose inputs differ.
 fn outline_of(
     alloc: Global,
-    places: &Numbers<'_>,
-    width: u32,
+    places: &ModelPlaces<'_, '_>,
     model: &IndexedModel<'_>,
 ) -> Result<Outline, Memory>
-    requires { IsDistinct bytes_eq (names_in model.now.inputs) }
-    ensures { (models : Items Model) → ArePlaces places.now.entries width (block_names (wide models) models model.now)
-        → width ≡ wide models model.now → IfOk result (IsOutline models model.now) }
+    requires same { model.now ≡ places.now.model }
+    requires distinct { IsDistinct bytes_eq (names_in places.now.model.inputs) }
+    requires full { length (names_of places.now) ≡ wide places.now.models places.now.model }
+    ensures { IfOk result (IsOutline places.now.models places.now.model) }
 {
-    let exits = exits_of(alloc, places, width, model.outputs())?;
-    Ok(Outline { exits, width })
+    let exits = exits_of(alloc, places, model.outputs())?;
+    Ok(Outline {
+        exits,
+        width: places.width(),
+    })
 }
 
 fn empty_outlines(alloc: Global, count: usize) -> Result<List<Outline>, Memory>
@@ -114,9 +99,9 @@ pub fn blocks_of(
         let at = *number as usize;
         let model = design.at(at);
         let own = model.model();
-        let (places, width) = places_of(alloc, hash, design, outlines.as_slice(), own)?;
-        let block = block_of(alloc, design, outlines.as_slice(), &places, width, own)?;
-        let outline = outline_of(alloc, &places, width, model)?;
+        let places = ModelPlaces::new(alloc, hash, design, outlines.as_slice(), own)?;
+        let block = block_of(alloc, outlines.as_slice(), &places)?;
+        let outline = outline_of(alloc, &places, model)?;
         blocks.set(at, block);
         outlines.set(at, outline);
     }

@@ -7,12 +7,15 @@ ghost use Rattle.blif_read.specs.Code.Seen.{texts};
 ghost use Rattle.blif_flat.specs.Designs.{names_in, formals};
 ghost use Rattle.blif_flat.specs.DesignFaults.{fits};
 
-use crate::models::indexed::{IndexedModel, Names, is_among};
+use crate::models::indexed::IndexedModel;
 use aq_base::Memory;
 use blif_read::{Call, Named, Port};
 use indexmap::IndexSet;
 use name_hash::NameHash;
 use std::alloc::Global;
+
+/// The formals of ports. The hash is keyed by the text.
+type Formals<'a> = IndexSet<&'a [u8], NameHash>;
 
 /// Each port is joined to an input or an output.
 fn are_known(model: &IndexedModel<'_>, ports: &[Port]) -> bool
@@ -28,7 +31,7 @@ fn are_known(model: &IndexedModel<'_>, ports: &[Port]) -> bool
 }
 
 /// Adds the formals of ports up to the first that is there already, and answers whether there is one.
-fn add_formals<'a>(formals: &mut Names<'a>, ports: &'a [Port]) -> Result<bool, Memory>
+fn add_formals<'a>(formals: &mut Formals<'a>, ports: &'a [Port]) -> Result<bool, Memory>
     ensures again { IfOk result (λ again. again
         ≡ adds_again (texts formals.old.keys) (map (λ p. p.formal) ports.now)) }
     ensures keys { IfOk result (λ again. again ≡ false → texts formals.new.keys
@@ -43,8 +46,15 @@ fn add_formals<'a>(formals: &mut Names<'a>, ports: &'a [Port]) -> Result<bool, M
     Ok(false)
 }
 
+/// Whether a name is one of the formals.
+fn is_among(formals: &Formals<'_>, name: &[u8]) -> bool
+    ensures { result ≡ is_defined (texts formals.now.keys) name.now }
+{
+    formals.contains(&name)
+}
+
 /// Each input has a port. No more inputs are looked at than there are ports, and one.
-fn are_joined(inputs: &[Named], formals: &Names<'_>) -> bool
+fn are_joined(inputs: &[Named], formals: &Formals<'_>) -> bool
     ensures { result ≡ list_all (λ n. is_defined (texts formals.now.keys) n.name) inputs.now }
 {
     for input in inputs {

@@ -5,7 +5,6 @@ ghost use Rattle.std.specs.List.{list_all};
 ghost use Rattle.std.specs.Str.{bytes_eq};
 ghost use Rattle.indexmap.specs.IndexSet.{insert_all};
 ghost use Rattle.blif_read.specs.Parts.{is_defined};
-ghost use Rattle.blif_read.specs.Code.Seen.{texts};
 ghost use Rattle.blif_read.specs.declared.models.BlifModel.{BlifModel};
 ghost use Rattle.blif_flat.specs.Designs.{names_in, distinct_outputs, model_number, model_at, no_model, called};
 ghost use Rattle.blif_flat.specs.Code.Numbering.{IsNumbering};
@@ -13,41 +12,20 @@ ghost use Rattle.blif_flat.specs.Code.Calls.{has_name};
 ghost use Rattle.blif_flat.specs.Code.Joining.{is_twice};
 
 use crate::models::calls::called;
+use crate::models::names::Names;
 use crate::models::numbers::{Numbers, number_of};
 use aq_base::Memory;
 use blif_read::{BlifModel, Call, Named};
-use indexmap::IndexSet;
 use name_hash::NameHash;
 use std::alloc::Global;
 use std::marker::Model;
 
-/// Names, each once. The hash is keyed by the text.
-pub type Names<'a> = IndexSet<&'a [u8], NameHash>;
-
-fn index_of<'a>(alloc: Global, hash: NameHash, names: &'a [Named]) -> Result<Names<'a>, Memory>
-    ensures { IfOk result (λ index. texts index.keys ≡ insert_all bytes_eq [] (names_in names.now)) }
-{
-    let mut index = IndexSet::with_hasher(alloc, hash);
-    index.reserve_exact(names.len())?;
-    for named in names {
-        index.insert(named.name.as_slice())?;
-    }
-    Ok(index)
-}
-
-/// Whether a name is one of these.
-pub fn is_among(names: &Names<'_>, name: &[u8]) -> bool
-    ensures { result ≡ is_defined (texts names.now.keys) name.now }
-{
-    names.contains(&name)
-}
-
 /// None of the inputs is among the outputs.
 fn are_apart(inputs: &[Named], outputs: &Names<'_>) -> bool
-    ensures { result ≡ list_all (λ n. not (is_defined (texts outputs.now.keys) n.name)) inputs.now }
+    ensures { result ≡ list_all (λ n. not (is_defined outputs.now n.name)) inputs.now }
 {
     for input in inputs {
-        if is_among(outputs, input.name.as_slice()) {
+        if outputs.has(input.name.as_slice()) {
             return false;
         }
     }
@@ -74,15 +52,15 @@ impl<'a> Model for IndexedModel<'a> {
 
     ghost view = { λ m. m.model.now };
 
-    ghost invariant = { λ m. AreIndexes m.model.now m.inputs.keys m.outputs.keys m.apart };
+    ghost invariant = { λ m. AreIndexes m.model.now m.inputs m.outputs m.apart };
 }
 
 impl<'a> IndexedModel<'a> {
     fn new(alloc: Global, hash: NameHash, model: &'a BlifModel) -> Result<Self, Memory>
         ensures { IfOk result (λ indexed. indexed ≡ model.now) }
     {
-        let inputs = index_of(alloc, hash, model.inputs.as_slice())?;
-        let outputs = index_of(alloc, hash, model.outputs.as_slice())?;
+        let inputs = Names::of(alloc, hash, model.inputs.as_slice())?;
+        let outputs = Names::of(alloc, hash, model.outputs.as_slice())?;
         let apart = are_apart(model.inputs.as_slice(), &outputs);
         Ok(IndexedModel {
             model,
@@ -101,14 +79,14 @@ impl<'a> IndexedModel<'a> {
 
     /// Its outputs, each once.
     pub fn outputs(&self) -> &Names<'a>
-        ensures { texts result.now.keys ≡ distinct_outputs self.now }
+        ensures { result.now ≡ distinct_outputs self.now }
     {
         &self.outputs
     }
 
     /// The names of its inputs, each once.
     pub fn input_names(&self) -> &Names<'a>
-        ensures { texts result.now.keys ≡ insert_all bytes_eq [] (names_in self.now.inputs) }
+        ensures { result.now ≡ insert_all bytes_eq [] (names_in self.now.inputs) }
     {
         &self.inputs
     }
@@ -124,14 +102,14 @@ impl<'a> IndexedModel<'a> {
     pub fn is_input(&self, name: &[u8]) -> bool
         ensures { result ≡ is_defined (names_in self.now.inputs) name.now }
     {
-        is_among(&self.inputs, name)
+        self.inputs.has(name)
     }
 
     /// Whether a name is that of an output.
     pub fn is_output(&self, name: &[u8]) -> bool
         ensures { result ≡ is_defined (names_in self.now.outputs) name.now }
     {
-        is_among(&self.outputs, name)
+        self.outputs.has(name)
     }
 
     /// Whether a name is that of an input or an output.

@@ -1,25 +1,16 @@
 // The ports of calls, and the places of signals in a block.
 ghost use Rattle.std.specs.Prelude.{◌≡◌, ℕ, ◌+◌, ◌<◌, ◌^◌, ◌∷◌, ◌++◌, [], List as Items, map, length, replicate};
 ghost use Rattle.std.specs.Prelude.{Option as Maybe, Some, None, IfOk, IfSome, MatchOption};
-ghost use Rattle.std.specs.List.{position, position_or_len};
-ghost use Rattle.std.specs.Str.{bytes_eq};
-ghost use Rattle.blif_read.specs.Code.Seen.{texts};
+ghost use Rattle.std.specs.List.{position_or_len};
 ghost use Rattle.blif_flat.specs.Designs.{formals};
 ghost use Rattle.blif_flat.specs.Code.Blocks.{is_that};
 ghost use Rattle.blif_flat.specs.Code.Joins.{ports_for, noted, actual_in, actuals_in, ArePlaces};
 
-use crate::models::indexed::Names;
+use crate::models::names::Names;
 use crate::models::numbers::{Numbers, add, number_of};
 use aq_base::Memory;
 use blif_read::Call;
 use std::alloc::Global;
-
-/// The number of a name among names.
-fn number_among(names: &Names<'_>, name: &[u8]) -> Option<usize>
-    ensures { result ≡ position (bytes_eq name.now) (texts names.now.keys) }
-{
-    names.get_index_of(&name)
-}
 
 /// Notes a port at a place, where none is yet.
 fn note(ports: &mut Vec<Option<usize>>, at: Option<usize>, port: usize)
@@ -50,11 +41,11 @@ pub fn ports_for(
     names: &Names<'_>,
     call: &Call,
 ) -> Result<Vec<Option<usize>>, Memory>
-    ensures { IfOk result (λ ports. ports.items ≡ ports_for (texts names.now.keys) (formals call.now)) }
+    ensures { IfOk result (λ ports. ports.items ≡ ports_for names.now (formals call.now)) }
 {
     let mut ports = no_ports(alloc, names.len())?;
     for (number, port) in call.ports.as_slice().iter().enumerate() {
-        let at = number_among(names, port.formal.as_slice());
+        let at = names.number(port.formal.as_slice());
         note(&mut ports, at, number);
     }
     Ok(ports)

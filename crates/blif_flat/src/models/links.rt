@@ -9,8 +9,9 @@ ghost use Rattle.blif_flat.specs.Code.Calls.{IsCallOrder};
 ghost use Rattle.blif_flat.specs.Code.Joins.{actual_in};
 ghost use Rattle.blif_flat.specs.Code.Linked.{IsLinkOf, AreLinks, HasLinks};
 
-use crate::models::indexed::{Design, Names};
+use crate::models::indexed::Design;
 use crate::models::joins::{actual_in, ports_for};
+use crate::models::names::Names;
 use aq_base::{List, Memory};
 use blif_read::{BlifModel, Call};
 use std::alloc::Global;
@@ -48,7 +49,7 @@ fn actuals_of<'a>(
     call: &'a Call,
 ) -> Result<Vec<&'a [u8]>, Memory>
     ensures { IfOk result (λ names. texts names.items
-        ≡ map (actual_of call.now) (filter (is_defined (formals call.now)) (texts outputs.now.keys))) }
+        ≡ map (actual_of call.now) (filter (is_defined (formals call.now)) outputs.now)) }
 {
     let ports = ports_for(alloc, outputs, call)?;
     let mut names = Vec::new(alloc);

@@ -3,6 +3,7 @@ pub mod calls;
 pub mod indexed;
 pub mod joins;
 pub mod links;
+pub mod names;
 pub mod numbers;
 pub mod outlines;
 pub mod sizes;

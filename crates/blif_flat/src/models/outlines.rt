@@ -1,21 +1,22 @@
 // The places of a model's signals in its block.
 ghost use Rattle.std.specs.Prelude.{◌≡◌, ℕ, ◌+◌, ◌<◌, ◌^◌, ◌∷◌, ◌++◌, [], List as Items, map, length, Option as Maybe};
-ghost use Rattle.std.specs.Prelude.{Some, None, slice_get, IfOk};
+ghost use Rattle.std.specs.Prelude.{Some, None, slice_get, slice_index_or, is_some, IfOk, IfSome};
 ghost use Rattle.std.specs.Option.{option_copied};
-ghost use Rattle.blif_flat.specs.Designs.{names_in, model_number};
-ghost use Rattle.blif_flat.specs.Code.Blocks.{call_names, block_names, wide};
+ghost use Rattle.blif_flat.specs.Designs.{model_number, no_model};
+ghost use Rattle.blif_flat.specs.Code.Blocks.{call_names, block_names, wide, names_of, place_in};
 ghost use Rattle.blif_flat.specs.Code.Joins.{ArePlaces};
 ghost use Rattle.blif_flat.specs.Code.Outlines.{IsOutlined, AreOutlined};
 ghost use Rattle.std.specs.List.{flat_map};
 
-use crate::models::indexed::Design;
-use crate::models::joins::{add_actuals, add_name, pass, ports_for};
+use crate::models::indexed::{Design, IndexedModel};
+use crate::models::joins::{add_actuals, add_name, pass, place_of, ports_for};
 use crate::models::numbers::Numbers;
 use aq_base::Memory;
 use blif_read::{BlifModel, Call, Named, NamedDef};
 use indexmap::IndexMap;
 use name_hash::NameHash;
 use std::alloc::Global;
+use std::marker::Model;
 
 /// What callers of a model need to know of its block.
 #[derive(Drop)]
@@ -108,28 +109,90 @@ fn add_calls<'a>(
     Ok(next)
 }
 
-/// The places of a model's signals in its block, and its width.
-pub fn places_of<'a>(
-    alloc: Global,
-    hash: NameHash,
-    design: &Design<'_>,
-    outlines: &[Outline],
-    model: &'a BlifModel,
-) -> Result<(Numbers<'a>, u32), Memory>
-    requires outlined { AreOutlined design.now outlines.now model.now.calls }
-    requires room { length (block_names (wide design.now) design.now model.now) < 2 ^ 32 }
-    ensures { IfOk result (λ r. ArePlaces r.0.entries r.1 (block_names (wide design.now) design.now model.now)) }
-{
-    let mut places = IndexMap::with_hasher(alloc, hash);
-    let inputs = add_inputs(model.inputs.as_slice(), &mut places, 0)?;
-    let own = add_defs(model.defs.as_slice(), &mut places, inputs)?;
-    let width = add_calls(
-        alloc,
-        design,
-        outlines,
-        model.calls.as_slice(),
-        &mut places,
-        own,
-    )?;
-    Ok((places, width))
+/// The places of a model's signals in its block, in a design.
+#[derive(Drop)]
+pub struct ModelPlaces<'a, 'b> {
+    design: &'b Design<'a>,
+    model: &'b BlifModel,
+    numbers: Numbers<'b>,
+
+    /// How many wires the block has.
+    width: u32,
+}
+
+impl<'a, 'b> Model for ModelPlaces<'a, 'b> {
+    ghost use Rattle.blif_flat.specs.Code.Blocks.{ModelIn, block_names, wide};
+    ghost use Rattle.blif_flat.specs.Code.Joins.{ArePlaces};
+
+    ghost Value = { ModelIn };
+
+    ghost view = { λ p. record { models = p.design.now; model = p.model.now } };
+
+    ghost invariant = { λ p. ArePlaces p.numbers.entries p.width
+        (block_names (wide p.design.now) p.design.now p.model.now) };
+}
+
+impl<'a, 'b> ModelPlaces<'a, 'b> {
+    /// The places of this model's signals.
+    pub fn new(
+        alloc: Global,
+        hash: NameHash,
+        design: &'b Design<'a>,
+        outlines: &[Outline],
+        model: &'b BlifModel,
+    ) -> Result<Self, Memory>
+        requires outlined { AreOutlined design.now outlines.now model.now.calls }
+        requires room { length (block_names (wide design.now) design.now model.now) < 2 ^ 32 }
+        ensures { IfOk result (λ places. places ≡ record { models = design.now; model = model.now }) }
+    {
+        let mut numbers = IndexMap::with_hasher(alloc, hash);
+        let inputs = add_inputs(model.inputs.as_slice(), &mut numbers, 0)?;
+        let own = add_defs(model.defs.as_slice(), &mut numbers, inputs)?;
+        let width = add_calls(
+            alloc,
+            design,
+            outlines,
+            model.calls.as_slice(),
+            &mut numbers,
+            own,
+        )?;
+        Ok(ModelPlaces {
+            design,
+            model,
+            numbers,
+            width,
+        })
+    }
+
+    /// The model, whose block has fewer wires than 32 bits count.
+    pub fn model(&self) -> &'b BlifModel
+        ensures model { result.now ≡ self.now.model }
+        ensures few { length (names_of self.now) < 2 ^ 32 }
+    {
+        let _width = self.width;
+        self.model
+    }
+
+    /// How many wires the model's block has.
+    pub fn width(&self) -> u32
+        ensures { result ≡ length (names_of self.now) }
+    {
+        self.width
+    }
+
+    /// The model that a call names, with its number, if it names one.
+    pub fn called(&self, call: &Call) -> Option<(u32, &IndexedModel<'a>)>
+        ensures found { is_some result ≡ is_some (model_number self.now.models call.now.model) }
+        ensures number { IfSome result (λ r. model_number self.now.models call.now.model ≡ Some r.0) }
+        ensures model { IfSome result (λ r. r.1.now ≡ slice_index_or self.now.models r.0 no_model) }
+    {
+        self.design.found(call)
+    }
+
+    /// The place of a name; behind the last where it has none.
+    pub fn place(&self, name: &[u8]) -> u32
+        ensures { result ≡ place_in self.now name.now }
+    {
+        place_of(&self.numbers, self.width, name)
+    }
 }

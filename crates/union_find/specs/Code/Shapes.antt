@@ -1,7 +1,7 @@
 -- What the tables of trees keep: roots, heights that obey the trees, and how large the trees are.
 use Rattle.std.specs.Prelude.{◌≡◌, ℕ, ◌+◌, ◌<◌, ◌≤◌, ◌^◌, ◌⊎◌, List, length, slice_index}
 use Rattle.std.specs.List.{sum_by}
-use Rattle.union_find.specs.Forests.{Forest, forest, Obeys}
+use Rattle.union_find.specs.Forests.{Forest, Tables, trees, Obeys}
 
 -- a node of a tree whose height is 1
 pub record Lowest (f : Forest) (h root : ℕ → ℕ) (r : ℕ) : Type 0 where
@@ -42,14 +42,19 @@ pub record IsForest (f : Forest) : Type 0 where
   pub shaped : IsShaped f h root
   pub sized : AreSizes f sizes
 
--- a node's root, and its height above the lowest of its tree
+-- in trees of this kind, a node's root, and its height above the lowest of its tree
 pub record IsFound (f : Forest) (node : ℕ) (root height : ℕ) : Type 0 where
+  pub known : IsForest f
+  pub few : f.count < 2 ^ 32
+  pub from : node < f.count
   pub below : root < f.count
+  pub within : height ≤ f.count
   pub is_root : f.parent root ≡ root
   pub shaped : (h roots : ℕ → ℕ) → IsShaped f h roots → (roots node ≡ root) × (h node ≡ height)
 
 -- on the way from a node to its root: a node of the same tree, and how much higher the first one is, and `count` more
 pub record IsOnWay (f : Forest) (node at gained : ℕ) : Type 0 where
+  pub from : node < f.count
   pub below : at < f.count
   pub shaped : (h root : ℕ → ℕ) → IsShaped f h root → (root at ≡ root node) × (h node + f.count ≡ h at + gained)
 
@@ -66,27 +71,21 @@ pub record MayHang (f : Forest) (h root : ℕ → ℕ) (r c yr yc : ℕ) : Type 
   pub c_ground : root 0 ≡ c → yc ≡ 0
   pub one_stays : (yr ≡ 0) ⊎ (yc ≡ 0)
 
+-- what clauses see of the tables
+abbrev pub tables_of : List ℕ → List ℕ → List ℕ → List ℕ → Tables
+tables_of parent above height size = record { parent = parent; above = above; height = height; size = size }
+
 -- the tables of trees, which are of one length
-pub record AreTables (parent above height size : List ℕ) : Type 0 where
-  pub few : length parent < 2 ^ 32
-  pub above_long : length above ≡ length parent
-  pub height_long : length height ≡ length parent
-  pub size_long : length size ≡ length parent
-  pub known : IsForest (forest parent above height size)
+pub record AreTables (t : Tables) : Type 0 where
+  pub few : length t.parent < 2 ^ 32
+  pub above_long : length t.above ≡ length t.parent
+  pub height_long : length t.height ≡ length t.parent
+  pub size_long : length t.size ≡ length t.parent
+  pub known : IsForest (trees t)
 
--- however the trees are shaped, the tree of c may be hung on root r
-abbrev pub MayBeHung : Forest → ℕ → ℕ → ℕ → ℕ → Type 0
-MayBeHung f r c yr yc = (h root : ℕ → ℕ) → IsShaped f h root → MayHang f h root r c yr yc
-
--- the second trees allow the heights that the first do, where the two roots differ as they do when both have risen
-pub record Hangs (f g : Forest) (r c yr yc : ℕ) : Type 0 where
-  pub count_is : g.count ≡ f.count
-  pub back : (k : ℕ → ℕ) → Obeys g k → Obeys f k
-  pub differ : (k : ℕ → ℕ) → Obeys g k → k c + (f.height r + yr) ≡ k r + (f.height c + yc)
-  pub forth : (k : ℕ → ℕ) → Obeys f k → k c + (f.height r + yr) ≡ k r + (f.height c + yc) → Obeys g k
-
--- there is room in the tables for two roots to be one tree
-pub record HasRoom (f : Forest) (r c yr yc : ℕ) : Type 0 where
+-- however the trees are shaped, the tree of c may be hung on root r, and there is room in the tables for both as one
+pub record MayBeHung (f : Forest) (r c yr yc : ℕ) : Type 0 where
+  pub shaped : (h root : ℕ → ℕ) → IsShaped f h root → MayHang f h root r c yr yc
   pub r_below : r < f.count
   pub c_below : c < f.count
   pub r_top : f.height r + yr ≤ f.count

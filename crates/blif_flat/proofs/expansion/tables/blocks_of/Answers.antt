@@ -1,17 +1,14 @@
-use Rattle.std.proofs.Common.{◌≡◌, ◌<◌, ◌^◌, ◌∙◌, List, ◌+◌, ap, sym, subst, refl, arith, length, length-set, reverse}
+use Rattle.std.proofs.Common.{◌≡◌, ◌<◌, ◌∙◌, List, ◌+◌, ap, sym, subst, refl, arith, length, length-set, reverse}
 use Rattle.std.proofs.Common.{take, get_or}
-use Rattle.std.specs.List.{IsDistinct}
-use Rattle.std.specs.Str.{bytes_eq}
 use Rattle.std.proofs.lemmas.Bool.{true≢false}
 use Rattle.blif_read.specs.declared.models.BlifModel.{BlifModel}
-use Rattle.blif_flat.specs.Designs.{names_in}
-use Rattle.blif_flat.specs.Code.Blocks.{wide, block_names, pieces, HasBlocks}
-use Rattle.blif_flat.specs.Code.Joins.{ArePlaces}
-use Rattle.blif_flat.specs.Code.Outlines.{IsOutline, AreOutlined}
+use Rattle.blif_flat.specs.Code.Blocks.{ModelIn, wide, pieces, HasBlocks}
+use Rattle.blif_flat.specs.Code.Outlines.{IsOutline}
 use Rattle.blif_flat.proofs.Sizing.{at}
-use Rattle.blif_flat.proofs.Tabling.{Outlined, small, calls_outlined, few_names, wide_is, inputs_distinct, blocks_next}
-use Rattle.blif_flat.proofs.Tabling.{outlines_next, no_blocks}
+use Rattle.blif_flat.proofs.Tabling.{Outlined, small, calls_outlined, few_names, full_here, inputs_distinct}
+use Rattle.blif_flat.proofs.Tabling.{blocks_next, outlines_next, no_blocks}
 use Rattle.blif_flat.proofs.expansion.tables.blocks_of.Goals as goal
+use Rattle.blif_flat.proofs.expansion.tables.blocks_of.Goals.{After-model-own, In_ok-places}
 
 pub loop-number-init : goal.loop-number-init
 loop-number-init c = record {
@@ -27,52 +24,53 @@ at-model-requires c =
     subst (λ (ms : List BlifModel). get_or c.args.order.now c.loop-number.number-index 0 < length ms)
     (sym c.requires.same) few
 
-pub outline_of-requires : goal.outline_of-requires
-outline_of-requires c =
-    let order = c.requires.order in
-    let lt = c.loop-number-test.true in
-    let is = c.at-model.ensures
-    ∙ ap (λ (ms : List BlifModel). at ms (get_or c.args.order.now c.loop-number.number-index 0)) c.requires.same in
-    subst (λ m. IsDistinct bytes_eq (names_in m.inputs)) (sym is)
-    (inputs_distinct c.args.models.now c.args.order.now c.loop-number.number-index order lt c.requires.joined)
+-- the model is the one whose number stands next in the order
+own_is : (c : After-model-own) → c.model-own.result.now
+    ≡ at c.args.models.now (get_or c.args.order.now c.loop-number.number-index 0)
+own_is c =
+    c.model-own.ensures ∙ c.at-model.ensures
+    ∙ ap (λ (ms : List BlifModel). at ms (get_or c.args.order.now c.loop-number.number-index 0)) c.requires.same
 
-pub places_of-requires : goal.places_of-requires
-places_of-requires c =
+-- and so is that of the places
+places_are : (c : In_ok-places) → c.in_ok-places.places ≡ record {
+  models = c.args.models.now;
+  model = at c.args.models.now (get_or c.args.order.now c.loop-number.number-index 0);
+}
+places_are c =
+    c.in_ok-places.ensures
+    ∙ (λ j. record { models = c.requires.same j; model = own_is (goal.at.In_ok-places c).After-model-own j })
+
+pub new-requires : goal.new-requires
+new-requires c =
     let models = c.args.models.now in
-    let same = c.requires.same in
-    let here = at models (get_or c.args.order.now c.loop-number.number-index 0) in
-    let own : c.model-own.result.now ≡ here = c.model-own.ensures ∙ c.at-model.ensures
-    ∙ ap (λ (ms : List BlifModel). at ms (get_or c.args.order.now c.loop-number.number-index 0)) same in
-    let known = calls_outlined models c.args.order.now c.loop-number.number-index c.requires.order
-    c.loop-number-test.true c.loop-number.outlines c.loop-number.invariant.known in
-    let few = few_names models c.args.order.now c.loop-number.number-index c.requires.order c.loop-number-test.true
-    c.requires.narrow in
+    let order = c.args.order.now in
+    let i = c.loop-number.number-index in
+    let own = own_is (goal.at.new-requires c).After-model-own in
     record {
-      outlined = subst (λ os. AreOutlined c.args.design.now os c.model-own.result.now.calls) (sym c.as_slice.ensures)
-          (subst (λ (ms : List BlifModel). AreOutlined ms c.loop-number.outlines c.model-own.result.now.calls)
-          (sym same)
-          (subst (λ (m : BlifModel). AreOutlined models c.loop-number.outlines m.calls) (sym own) known));
-      room = subst (λ (ms : List BlifModel). length (block_names (wide ms) ms c.model-own.result.now) < 2 ^ 32)
-          (sym same)
-          (subst (λ (m : BlifModel). length (block_names (wide models) models m) < 2 ^ 32) (sym own) few);
+      outlined = rw (c.as_slice.ensures, own, c.requires.same)
+          (calls_outlined models order i c.requires.order c.loop-number-test.true c.loop-number.outlines
+          c.loop-number.invariant.known);
+      room = rw (own, c.requires.same)
+          (few_names models order i c.requires.order c.loop-number-test.true c.requires.narrow);
     }
 
 pub block_of-requires : goal.block_of-requires
 block_of-requires c =
+    rw (c.as_slice-in-loop-number.ensures, places_are (goal.at.block_of-requires c).In_ok-places)
+    (calls_outlined c.args.models.now c.args.order.now c.loop-number.number-index c.requires.order
+    c.loop-number-test.true c.loop-number.outlines c.loop-number.invariant.known)
+
+pub outline_of-requires : goal.outline_of-requires
+outline_of-requires c =
     let models = c.args.models.now in
-    let same = c.requires.same in
-    let here = at models (get_or c.args.order.now c.loop-number.number-index 0) in
-    let own : c.model-own.result.now ≡ here = c.model-own.ensures ∙ c.at-model.ensures
-    ∙ ap (λ (ms : List BlifModel). at ms (get_or c.args.order.now c.loop-number.number-index 0)) same in
-    let known = calls_outlined models c.args.order.now c.loop-number.number-index c.requires.order
-    c.loop-number-test.true c.loop-number.outlines c.loop-number.invariant.known in
-    let outlined = subst (λ (ms : List BlifModel). AreOutlined ms c.loop-number.outlines c.model-own.result.now.calls)
-    (sym same)
-    (subst (λ (m : BlifModel). AreOutlined models c.loop-number.outlines m.calls) (sym own) known) in
+    let order = c.args.order.now in
+    let i = c.loop-number.number-index in
+    let is = places_are (goal.at.outline_of-requires c).In_ok-places in
     record {
-      outlined = subst (λ os. AreOutlined c.args.design.now os c.model-own.result.now.calls)
-          (sym c.as_slice-in-loop-number.ensures) outlined;
-      places = c.in_ok-places.ensures;
+      same = sym (ap (λ (p : ModelIn). p.model) c.in_ok-places.ensures ∙ c.model-own.ensures);
+      distinct = rw is
+          (inputs_distinct models order i c.requires.order c.loop-number-test.true c.requires.joined);
+      full = rw is (sym (full_here models order i c.requires.order c.loop-number-test.true));
     }
 
 pub set-requires : goal.set-requires
@@ -96,22 +94,10 @@ loop-number-preserved c =
     let i = c.loop-number.number-index in
     let o = c.requires.order in
     let lt = c.loop-number-test.true in
-    let same = c.requires.same in
-    let here = at models (get_or order i 0) in
-    let is : c.at-model.result.now ≡ here = c.at-model.ensures
-    ∙ ap (λ (ms : List BlifModel). at ms (get_or order i 0)) same in
-    let own : c.model-own.result.now ≡ here = c.model-own.ensures ∙ is in
-    let outlined = calls_outlined models order i o lt c.loop-number.outlines c.loop-number.invariant.known in
-    let places = subst (λ (ms : List BlifModel). ArePlaces c.in_ok-places.places.entries c.in_ok-places.width
-    (block_names (wide ms) ms c.model-own.result.now)) same c.in_ok-places.ensures in
-    let placed = subst (λ (m : BlifModel). ArePlaces c.in_ok-places.places.entries c.in_ok-places.width
-    (block_names (wide models) models m)) own places in
-    let made = c.in_ok-block.ensures ∙ (λ j. pieces (wide (same j)) (same j) (own j)) in
-    let width = wide_is models order i o lt c.in_ok-places.places.entries c.in_ok-places.width placed in
-    let told = subst (λ (m : BlifModel). ArePlaces c.in_ok-places.places.entries c.in_ok-places.width
-    (block_names (wide models) models m)
-    → c.in_ok-places.width ≡ wide models m → IsOutline models m c.in_ok-outline.outline) is
-    (c.in_ok-outline.ensures models) placed width in
+    let is = places_are (goal.at.loop-number-preserved c).In_ok-places in
+    let made = c.in_ok-block.ensures ∙ ap (λ (p : ModelIn). pieces (wide p.models) p.models p.model) is in
+    let told = subst (λ (p : ModelIn). IsOutline p.models p.model c.in_ok-outline.outline) is
+    c.in_ok-outline.ensures in
     record {
       many = ap length c.set-in-loop-number.ensures ∙ length-set c.loop-number.outlines _ _
           ∙ c.loop-number.invariant.many;

@@ -1,8 +1,7 @@
 use Rattle.std.proofs.Common.{◌≡◌, map, take}
-use Rattle.blif_read.specs.Code.Seen.{texts}
 use Rattle.blif_flat.specs.Code.Joins.{ports_for}
 use Rattle.blif_flat.proofs.models.joins.ports_for.Given as goal
 
 abbrev pub invariant-loop-number : goal.invariant-loop-number
-invariant-loop-number l = l.ports.items ≡ ports_for (texts l.names.keys)
+invariant-loop-number l = l.ports.items ≡ ports_for l.names
     (map (λ p. p.formal) (take l.number l.call.ports))

@@ -2,7 +2,6 @@ use Rattle.std.proofs.Common.{◌∙◌, ap, not, []}
 use Rattle.std.specs.List.{list_all}
 use Rattle.std.specs.Str.{bytes_eq}
 use Rattle.indexmap.specs.IndexSet.{insert_all}
-use Rattle.blif_read.specs.Code.Seen.{texts}
 use Rattle.blif_read.specs.Parts.{is_defined}
 use Rattle.blif_flat.specs.Designs.{names_in}
 use Rattle.blif_flat.proofs.Indexes.{index_defines, all_same}
@@ -15,8 +14,8 @@ invariant_of-result c =
       has_inputs = c.in_ok-inputs.ensures ∙ ap (λ ns. insert_all bytes_eq [] (names_in ns)) c.as_slice.ensures;
       has_outputs = outputs;
       is_apart = c.are_apart-apart.ensures
-          ∙ ap (list_all (λ n. not (is_defined (texts c.in_ok-outputs.outputs.keys) n.name))) c.as_slice-3.ensures
+          ∙ ap (list_all (λ n. not (is_defined c.in_ok-outputs.outputs n.name))) c.as_slice-3.ensures
           ∙ all_same _ _ (λ n. ap not
-          (index_defines (texts c.in_ok-outputs.outputs.keys) (names_in c.args.model.now.outputs) n.name outputs))
+          (index_defines c.in_ok-outputs.outputs (names_in c.args.model.now.outputs) n.name outputs))
           c.args.model.now.inputs;
     }

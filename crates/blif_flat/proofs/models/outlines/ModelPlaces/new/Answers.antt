@@ -4,7 +4,7 @@ use Rattle.blif_flat.specs.Code.Blocks.{call_names, wide}
 use Rattle.blif_flat.specs.Code.Outlines.{AreOutlined}
 use Rattle.blif_flat.proofs.Assembling.{block_size}
 use Rattle.blif_flat.proofs.Outlining.{places_whole}
-use Rattle.blif_flat.proofs.models.outlines.places_of.Goals as goal
+use Rattle.blif_flat.proofs.models.outlines.ModelPlaces.new.Goals as goal
 
 pub add_inputs-requires : goal.add_inputs-requires
 add_inputs-requires c =
@@ -40,9 +40,9 @@ add_calls-requires c =
       );
     }
 
-pub returns : goal.returns
-returns c =
-    places_whole c.args.design.now c.args.model.now _ _ _ c.with_hasher-places.result.entries _ _ _ _ _ _
-    c.as_slice.ensures c.as_slice-2.ensures c.as_slice-3.ensures c.with_hasher-places.ensures.empty
+pub invariant_of-result : goal.invariant_of-result
+invariant_of-result c =
+    places_whole c.args.design.now c.args.model.now _ _ _ c.with_hasher-numbers.result.entries _ _ _ _ _ _
+    c.as_slice.ensures c.as_slice-2.ensures c.as_slice-3.ensures c.with_hasher-numbers.ensures.empty
     c.in_ok-inputs.ensures.places c.in_ok-own.ensures.places
     c.in_ok-width.ensures

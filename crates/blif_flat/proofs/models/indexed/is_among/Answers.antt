@@ -1,7 +1,0 @@
-use Rattle.std.proofs.Common.{◌∙◌, sym}
-use Rattle.std.specs.Str.{bytes_eq}
-use Rattle.blif_read.proofs.Tokens.{any_seen}
-use Rattle.blif_flat.proofs.models.indexed.is_among.Goals as goal
-
-pub returns : goal.returns
-returns c = c.contains.ensures ∙ sym (any_seen (bytes_eq c.args.name.now) c.args.names.now.keys)
