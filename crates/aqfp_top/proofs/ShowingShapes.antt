@@ -1,15 +1,13 @@
 -- From the clauses of the steps of naming shapes to its own.
-use Rattle.std.proofs.Common.{ℕ, ◌≡◌, ◌≤◌, ◌<◌, ◌⊎◌, List, [], ◌∷◌, ◌++◌, Option, Some, None, Result, Ok, Err}
+use Rattle.std.proofs.Common.{ℕ, ◌≡◌, ◌≤◌, ◌<◌, ◌⊎◌, List, [], ◌∷◌, Option, Some, None, Result, Ok, Err}
 use Rattle.std.proofs.Common.{IfErr}
 use Rattle.std.proofs.Common.{refl, sym, subst, inl, inr, arith}
 use Rattle.std.specs.Result.{result_err}
 use Rattle.aq_base.specs.Output.{Output}
 use Rattle.geom.specs.declared.shapes.Flat.{Flat}
-use Rattle.geom.specs.FlatForm.{flat_count}
 use Rattle.poly_cut.specs.declared.layout.WideLayout.{WideLayout}
 use Rattle.poly_cut.specs.FlatForm.{wide_flat}
 use Rattle.gds_records.specs.Stream.{IsWideStream}
-use Rattle.text_report.specs.ShapeLines.{shape_line}
 use Rattle.aqfp_top.specs.Loads.{gds_limit}
 use Rattle.aqfp_top.specs.Stages as stage
 use Rattle.aqfp_top.specs.Stages.{Stage, FindsNone, IsFirst, Answers}
@@ -18,63 +16,16 @@ use Rattle.aqfp_top.specs.Faults.{IsShapesFault}
 use Rattle.aqfp_top.specs.Printed.{TextPrints}
 use Rattle.aqfp_top.specs.Shown.{IsNoShape, HasLines, AreShapes}
 use Rattle.aqfp_top.specs.Code.Loading.{IsFaultOfLoad}
-use Rattle.aqfp_top.specs.Code.Printing.{PrintsText}
-use Rattle.aqfp_top.specs.Code.Reporting.{IsLayoutFault, IsPastFault, IsNamingFault, IsShowingFault}
+use Rattle.aqfp_top.specs.Code.Reporting.{IsLayoutFault, IsNamingFault, IsShowingFault}
 use Rattle.aqfp_top.specs.declared.fault.WriteCall.TheVariants.{Create, Append, Close, Out}
 use Rattle.aqfp_top.specs.declared.fault.Fault.{Fault}
 use Rattle.aqfp_top.specs.declared.fault.Fault.TheVariants.{WriteFault, NoShape, Memory}
 use Rattle.aqfp_top.proofs.EachFault.{each_load, each_layout, each_showing}
 use Rattle.aqfp_top.proofs.Judging.{IsRead}
-use Rattle.aqfp_top.proofs.OutEnds.{each_text}
-use Rattle.aqfp_top.proofs.Printing.{prints_more, text_prints}
+use Rattle.aqfp_top.proofs.Printing.{prints_more}
 use Rattle.aqfp_top.proofs.Staging.{past, past_all, found}
 
--- The lines.
-
--- where a number is past the shapes nothing is printed
-
-pub past_prints : (flat : Flat) (first second : ℕ) (Means : List ℕ → Type 0) (held : Output) (fault : Fault)
-    → IsPastFault flat first second fault → TextPrints Means held held (Some fault)
-past_prints flat first second Means held (NoShape number count) past = refl
-past_prints flat first second Means held _ past = absurd past
-
-pub past_naming : (flat : Flat) (first second : ℕ) (fault : Fault) → IsPastFault flat first second fault
-    → IsNamingFault flat first second fault
-past_naming flat first second (NoShape number count) past = past
-past_naming flat first second _ past = absurd past
-
--- the lines, or some first bytes of them
-abbrev both : Flat → ℕ → ℕ → List ℕ
-both flat first second = shape_line flat first ++ shape_line flat second
-
-pub both_print : (flat : Flat) (first second : ℕ) (shown shown' : Output) (result : Result (Unit {0}) Fault)
-    → first < flat_count flat → second < flat_count flat → PrintsText (both flat first second) shown shown' result
-    → TextPrints (HasLines flat first second) shown shown' (result_err result)
-both_print flat first second shown shown' result one other prints =
-    text_prints (HasLines flat first second) (both flat first second) shown shown' result
-    (record { first_there = one; second_there = other; text_is = refl }) prints
-
-pub both_naming : (flat : Flat) (first second : ℕ) (text : List ℕ) (shown shown' : Output)
-    (result : Result (Unit {0}) Fault) → PrintsText text shown shown' result
-    → IfErr result (IsNamingFault flat first second)
-both_naming flat first second text shown shown' result prints =
-    each_text (λ r. IfErr r (IsNamingFault flat first second)) text shown shown' (λ p. tt) (λ p. tt) (λ p. tt) result
-    prints
-
-pub ruleset lines = (past_prints, past_naming, both_print, both_naming)
-
 -- The layout.
-
-pub same_prints : (flat whole : Flat) (first second : ℕ) (before after : Output) (fault : Option Fault)
-    → flat ≡ whole → TextPrints (HasLines flat first second) before after fault
-    → TextPrints (HasLines whole first second) before after fault
-same_prints flat whole first second before after fault same prints =
-    subst (λ f. TextPrints (HasLines f first second) before after fault) same prints
-
-pub same_naming : (flat whole : Flat) (first second : ℕ) (result : Result (Unit {0}) Fault) → flat ≡ whole
-    → IfErr result (IsNamingFault flat first second) → IfErr result (IsNamingFault whole first second)
-same_naming flat whole first second result same bad =
-    subst (λ f. IfErr result (IsNamingFault f first second)) same bad
 
 -- the numbers are of shapes, so that nothing is found
 there_not_past : (first second count number : ℕ) → first < count → second < count → count ≤ number

@@ -154,6 +154,6 @@ deeper f (Ok made) below part (suc k) some each so =
     let e : suc k - 1 ≡ k = omega arith in so ∙ ap below e ∙ each k (omega arith)
 
 -- the items of the structure at a place
-pub items_there : (ss : List WideStructure) (n : ℕ) (s : WideStructure) → n < length ss → s ≡ get_or ss n s
-    → items_at ss n ≡ s.items
-items_there ss n s within at = ap items_in (slice_get-get_or ss n s within ∙ ap Some (sym at))
+pub items_there : (ss : List WideStructure) (n : ℕ) (s : WideStructure) → n < length ss
+    → items_at ss n ≡ (get_or ss n s).items
+items_there ss n s within = ap items_in (slice_get-get_or ss n s within)

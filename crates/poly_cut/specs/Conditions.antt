@@ -3,6 +3,7 @@ use Rattle.std.specs.Prelude.{◌≡◌, ℕ, zero, suc, ◌<◌, ◌≤◌, ◌
 use Rattle.std.specs.Prelude.{◌*ℤ◌, FitsSigned}
 use Rattle.std.specs.Int.{w32}
 use Rattle.std.specs.List.{AllByRecursion}
+use Rattle.geom.specs.FlatForm.{shape_limit}
 use Rattle.poly_cut.specs.declared.layout.Point.{Point}
 use Rattle.poly_cut.specs.declared.layout.Turn.{Turn}
 use Rattle.poly_cut.specs.declared.layout.Grid.{Grid}
@@ -56,9 +57,9 @@ goes_down zero ss n = true
 goes_down (suc k) ss n = some_placed (goes_down k ss) (items_at ss n)
 
 -- the top and all that is placed are there, figures and grids are as they may be, no chain has more than 64 references
--- and so none is a loop, and the flat form has at most 8,000,000 shapes and labels
+-- and so none is a loop, and the flat form has as few shapes and labels as are read
 pub record IsFlattenable (w : WideLayout) : Type 0 where
   pub top_stands : w.top < length w.structures
   pub each : AreItems (length w.structures) w.structures
   pub short : (n : ℕ) → goes_down 65 w.structures n ≡ false
-  pub within : wide_count w ≤ 8000000
+  pub within : wide_count w ≤ shape_limit

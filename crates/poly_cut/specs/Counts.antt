@@ -1,5 +1,6 @@
--- How many shapes and labels a flat form has, counted structure by structure.
-use Rattle.std.specs.Prelude.{ℕ, zero, suc, ◌+◌, ◌-◌, ◌*◌, ◌^◌, min, List, [], ◌∷◌, length}
+-- How many shapes and labels a flat form has, counted structure by structure: of both kinds, or of one of them alone.
+use Rattle.std.specs.Prelude.{ℕ, zero, suc, ◌-◌, ◌*◌, ◌^◌, min, List, Bool, true, false, length, sum_by}
+use Rattle.poly_cut.specs.declared.counts.CountedKinds.{CountedKinds}
 use Rattle.poly_cut.specs.declared.layout.Item.{Item}
 use Rattle.poly_cut.specs.declared.layout.Item.TheVariants.{Draw, Place, Text}
 use Rattle.poly_cut.specs.declared.layout.WideStructure.{WideStructure}
@@ -7,28 +8,29 @@ use Rattle.poly_cut.specs.declared.layout.WideLayout.{WideLayout}
 use Rattle.poly_cut.specs.Figures.{cut_of}
 use Rattle.poly_cut.specs.FlatForm.{items_at, DEPTH}
 
--- among the items themselves
-abbrev pub own_count : List Item → ℕ
-own_count [] = 0
-own_count (Draw layer datatype f ∷ es) = length (cut_of f) + own_count es
-own_count (Place n at turn grid ∷ es) = own_count es
-own_count (Text l ∷ es) = 1 + own_count es
+-- so many, where their kind is counted
+abbrev pub counted : Bool → ℕ → ℕ
+counted true n = n
+counted false n = 0
 
--- in what the items place, where these are the counts of each structure
-abbrev pub placed_count : (ℕ → ℕ) → List Item → ℕ
-placed_count of [] = 0
-placed_count of (Draw layer datatype f ∷ es) = placed_count of es
-placed_count of (Place n at turn grid ∷ es) = grid.rows * grid.columns * of n + placed_count of es
-placed_count of (Text l ∷ es) = placed_count of es
+-- in what an item adds, where these are the counts of each structure
+abbrev pub item_count : CountedKinds → (ℕ → ℕ) → Item → ℕ
+item_count kinds of (Draw layer datatype f) = counted kinds.shapes (length (cut_of f))
+item_count kinds of (Place n at turn grid) = grid.rows * grid.columns * of n
+item_count kinds of (Text l) = counted kinds.labels 1
 
 -- in the flat form of structure n, down chains of fewer references than this
-abbrev pub count_of : ℕ → List WideStructure → ℕ → ℕ
-count_of zero ss n = 0
-count_of (suc depth) ss n = own_count (items_at ss n) + placed_count (count_of depth ss) (items_at ss n)
+abbrev pub count_of : CountedKinds → ℕ → List WideStructure → ℕ → ℕ
+count_of kinds zero ss n = 0
+count_of kinds (suc depth) ss n = sum_by (item_count kinds (count_of kinds depth ss)) (items_at ss n)
+
+-- shapes and labels together
+abbrev pub both : CountedKinds
+both = record { shapes = true; labels = true }
 
 -- in the flat form of the top structure
 unfoldable pub wide_count : WideLayout → ℕ
-wide_count w = count_of DEPTH w.structures w.top
+wide_count w = count_of both DEPTH w.structures w.top
 
 -- a number as 64 bits tell it: the greatest of them stands for all above it
 abbrev pub told : ℕ → ℕ

@@ -6,6 +6,7 @@ pub mod Figures
 pub mod Turns
 pub mod FlatForm
 pub mod Counts
+pub mod Numbers
 pub mod Conditions
 pub mod Bounds
 pub mod Order

@@ -1,15 +1,22 @@
-// The number of shapes and labels of a flat form, without making it.
-ghost use Rattle.std.specs.Prelude.{◌≡◌, ◌+◌, ◌*◌, ◌∷◌, [], ℕ, length, map, slice_index, not, ◌==◌, IsTrue, IfOk};
+// The numbers of shapes and labels of a flat form, without making it.
+ghost use Rattle.std.specs.Prelude.{◌≡◌, ◌*◌, ℕ, length, slice_index, not, ◌==◌, IsTrue, IfOk, sum_by};
 ghost use Rattle.poly_cut.specs.Cuts.{ring_cut};
 ghost use Rattle.poly_cut.specs.Figures.{cut_of};
 ghost use Rattle.poly_cut.specs.FlatForm.{items_at};
-ghost use Rattle.poly_cut.specs.Counts.{own_count, placed_count, count_of, wide_count, told};
+ghost use Rattle.poly_cut.specs.Counts.{counted, item_count, count_of, wide_count, told};
 ghost use Rattle.poly_cut.specs.Code.Counted.{Tell};
 
 use crate::cutting::is_cut;
 use crate::layout::{Figure, Grid, Item, Point, WideLayout, WideStructure};
 use aq_base::Memory;
 use std::alloc::Global;
+
+/// The kinds that are counted.
+#[derive(Clone, Copy)]
+pub struct CountedKinds {
+    pub shapes: bool,
+    pub labels: bool,
+}
 
 /// Whether a ring has a square inside.
 pub fn has_squares(alloc: Global, ring: &[Point]) -> Result<bool, Memory>
@@ -28,37 +35,11 @@ fn figure_count(figure: &Figure) -> usize
     }
 }
 
-/// How many shapes and labels an item has itself.
-fn own_of_item(item: &Item) -> usize
-    ensures { result ≡ own_count (item.now ∷ []) }
+/// So many, where they are counted.
+fn counted(asked: bool, count: u64) -> u64
+    ensures { result ≡ counted asked count }
 {
-    match item {
-        Item::Draw { figure, .. } => figure_count(figure),
-        Item::Place { .. } => 0,
-        Item::Text(_) => 1,
-    }
-}
-
-/// How many shapes and labels items have themselves; the greatest number stands for all above it.
-fn own_count(items: &[Item]) -> u64
-    ensures { result ≡ told (own_count items.now) }
-{
-    let mut count: u64 = 0;
-    for item in items {
-        count = count.saturating_add(own_of_item(item) as u64);
-    }
-    count
-}
-
-/// So of each structure.
-fn own_counts(alloc: Global, structures: &[WideStructure]) -> Result<Vec<u64>, Memory>
-    ensures { IfOk result (λ counts. counts.items ≡ map (λ s. told (own_count s.items)) structures.now) }
-{
-    let mut counts = Vec::new(alloc);
-    for structure in structures {
-        counts.push(own_count(structure.items.as_slice()))?;
-    }
-    Ok(counts)
+    if asked { count } else { 0 }
 }
 
 /// How many points a grid has.
@@ -69,7 +50,7 @@ fn points_in(grid: &Grid) -> u64
 }
 
 /// The count of a structure; 0 past the last.
-fn count_at(counts: &[u64], structure: u32) -> u64
+pub fn count_at(counts: &[u64], structure: u32) -> u64
     ensures { result ≡ slice_index counts.now structure }
 {
     match counts.get(structure as usize) {
@@ -78,27 +59,28 @@ fn count_at(counts: &[u64], structure: u32) -> u64
     }
 }
 
-/// How many shapes and labels an item places, where these are the counts of structures.
-fn placed_by_item(item: &Item, counts: &[u64]) -> u64
-    ensures { (of : ℕ → ℕ) → Tell counts.now of → result ≡ told (placed_count of (item.now ∷ [])) }
+/// How many an item adds, where these are the counts of structures.
+pub fn item_count(item: &Item, counts: &[u64], kinds: CountedKinds) -> u64
+    ensures { (of : ℕ → ℕ) → Tell counts.now of → result ≡ told (item_count kinds of item.now) }
 {
     match item {
+        Item::Draw { figure, .. } => counted(kinds.shapes, figure_count(figure) as u64),
         Item::Place {
             structure,
             grid,
             ..
         } => { points_in(grid).saturating_mul(count_at(counts, *structure)) }
-        _ => 0,
+        Item::Text(_) => counted(kinds.labels, 1),
     }
 }
 
-/// How many shapes and labels items place, where these are the counts of structures.
-fn placed_count(items: &[Item], counts: &[u64]) -> u64
-    ensures { (of : ℕ → ℕ) → Tell counts.now of → result ≡ told (placed_count of items.now) }
+/// How many items add, where these are the counts of structures; the greatest number stands for all above it.
+fn items_count(items: &[Item], counts: &[u64], kinds: CountedKinds) -> u64
+    ensures { (of : ℕ → ℕ) → Tell counts.now of → result ≡ told (sum_by (item_count kinds of) items.now) }
 {
     let mut count: u64 = 0;
     for item in items {
-        count = count.saturating_add(placed_by_item(item, counts));
+        count = count.saturating_add(item_count(item, counts, kinds));
     }
     count
 }
@@ -107,17 +89,15 @@ fn placed_count(items: &[Item], counts: &[u64]) -> u64
 fn counts_above(
     alloc: Global,
     structures: &[WideStructure],
-    own: &[u64],
     counts: &[u64],
+    kinds: CountedKinds,
 ) -> Result<Vec<u64>, Memory>
-    requires { own.now ≡ map (λ s. told (own_count s.items)) structures.now }
     ensures { IfOk result (λ above. (of : ℕ → ℕ) → Tell counts.now of
-        → Tell above.items (λ n. own_count (items_at structures.now n) + placed_count of (items_at structures.now n))) }
+        → Tell above.items (λ n. sum_by (item_count kinds of) (items_at structures.now n))) }
 {
-    let mut above = Vec::new(alloc);
-    for (n, structure) in structures.iter().enumerate() {
-        let placed = placed_count(structure.items.as_slice(), counts);
-        above.push(own[n].saturating_add(placed))?;
+    let mut above = Vec::with_capacity(alloc, structures.len())?;
+    for structure in structures {
+        above.push(items_count(structure.items.as_slice(), counts, kinds))?;
     }
     Ok(above)
 }
@@ -128,15 +108,18 @@ fn are_same(counts: &[u64], others: &[u64]) -> bool
     counts == others
 }
 
-/// The counts of shapes and labels of structures, as 64 bits tell them. A round that changes none is the last.
-fn counts(alloc: Global, structures: &[WideStructure]) -> Result<Vec<u64>, Memory>
-    ensures { IfOk result (λ counts. Tell counts.items (count_of 65 structures.now)) }
+/// The counts of structures, as 64 bits tell them. A round that changes none is the last.
+pub fn counts(
+    alloc: Global,
+    structures: &[WideStructure],
+    kinds: CountedKinds,
+) -> Result<Vec<u64>, Memory>
+    ensures { IfOk result (λ counts. Tell counts.items (count_of kinds 65 structures.now)) }
 {
-    let own = own_counts(alloc, structures)?;
     let mut counts = Vec::new(alloc);
     let mut depth: usize = 0;
     'levels: while depth < 65 {
-        let above = counts_above(alloc, structures, own.as_slice(), counts.as_slice())?;
+        let above = counts_above(alloc, structures, counts.as_slice(), kinds)?;
         if are_same(above.as_slice(), counts.as_slice()) {
             return Ok(counts);
         }
@@ -150,6 +133,10 @@ fn counts(alloc: Global, structures: &[WideStructure]) -> Result<Vec<u64>, Memor
 pub fn count_flat(alloc: Global, wide: &WideLayout) -> Result<u64, Memory>
     ensures { IfOk result (λ count. count ≡ told (wide_count wide.now)) }
 {
-    let counts = counts(alloc, wide.structures.as_slice())?;
+    let kinds = CountedKinds {
+        shapes: true,
+        labels: true,
+    };
+    let counts = counts(alloc, wide.structures.as_slice(), kinds)?;
     Ok(count_at(counts.as_slice(), wide.top))
 }

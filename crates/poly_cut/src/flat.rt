@@ -3,10 +3,10 @@ ghost use Rattle.std.specs.Prelude.{◌≡◌, ◌≤◌, ◌<◌, ◌^◌, ◌+
 ghost use Rattle.std.specs.List.{flat_map, AllByRecursion};
 ghost use Rattle.poly_cut.specs.Turns.{placed_shape, placed_label};
 ghost use Rattle.poly_cut.specs.Bounds.{IsShapeWithin, IsLabelWithin, IsNear};
-ghost use Rattle.poly_cut.specs.Conditions.{AreItems, IsItem, IsFlattenable};
+ghost use Rattle.poly_cut.specs.Conditions.{IsItem, IsFlattenable};
 ghost use Rattle.poly_cut.specs.FlatForm.{shape, item_shapes, item_labels, shapes_of, labels_of, wide_flat};
-ghost use Rattle.poly_cut.specs.Code.Holding.{MarksAll};
-ghost use Rattle.poly_cut.specs.Code.Readied.{IsReady, IsTable, ready_shapes, ready_labels};
+ghost use Rattle.poly_cut.specs.Code.Flattening.{IsFlattening};
+ghost use Rattle.poly_cut.specs.Code.Readied.{IsReady, ready_shapes, ready_labels};
 
 use crate::grids::grid_points;
 use crate::holding::marks;
@@ -104,26 +104,31 @@ fn add_copies(flat: &mut Part, part: &Part, turn: &Turn, points: &[Point]) -> Re
     Ok(())
 }
 
+/// What is flattened: structures, which of them hold something, and what the items of each add that is visited more
+/// than once.
+#[derive(Clone, Copy)]
+struct Flattening<'a> {
+    structures: &'a [WideStructure],
+    marks: &'a [bool],
+    table: &'a [Option<List<Ready>>],
+}
+
 /// Adds what an item adds, down chains of fewer references than this.
 #[cycle(flatten)]
 fn add_item(
     alloc: Global,
-    structures: &[WideStructure],
-    marks: &[bool],
-    table: &[Option<List<Ready>>],
+    flattening: &Flattening<'_>,
     depth: usize,
     item: &Ready,
     flat: &mut Part,
 ) -> Result<(), Memory>
     requires depth { depth ≤ 64 }
-    requires items { AreItems (length structures.now) structures.now }
-    requires marks { MarksAll structures.now marks.now }
-    requires table { IsTable structures.now table.now }
-    requires item { IsReady (length structures.now) item.now }
+    requires flattening { IsFlattening flattening.now }
+    requires item { IsReady (length flattening.now.structures.now) item.now }
     ensures shapes { OnOk result (flat.new.shapes ≡ flat.old.shapes ++ ready_shapes
-        (shapes_of depth structures.now) item.now) }
+        (shapes_of depth flattening.now.structures.now) item.now) }
     ensures labels { OnOk result (flat.new.labels ≡ flat.old.labels ++ ready_labels
-        (labels_of depth structures.now) item.now) }
+        (labels_of depth flattening.now.structures.now) item.now) }
 {
     match item {
         Ready::Boxed(shape) => flat.shapes.push(*shape),
@@ -138,7 +143,7 @@ fn add_item(
             turn,
             grid,
         } => {
-            let part = part_of(alloc, structures, marks, table, depth, *structure)?;
+            let part = part_of(alloc, flattening, depth, *structure)?;
             let points = grid_points(alloc, at, grid)?;
             add_copies(flat, &part, turn, points.as_slice())
         }
@@ -150,25 +155,21 @@ fn add_item(
 #[cycle(flatten)]
 fn part_with(
     alloc: Global,
-    structures: &[WideStructure],
-    marks: &[bool],
-    table: &[Option<List<Ready>>],
+    flattening: &Flattening<'_>,
     depth: usize,
     items: &[Ready],
 ) -> Result<Part, Memory>
     requires depth { depth ≤ 64 }
-    requires items { AreItems (length structures.now) structures.now }
-    requires marks { MarksAll structures.now marks.now }
-    requires table { IsTable structures.now table.now }
-    requires each { AllByRecursion (IsReady (length structures.now)) items.now }
+    requires flattening { IsFlattening flattening.now }
+    requires each { AllByRecursion (IsReady (length flattening.now.structures.now)) items.now }
     ensures shapes { IfOk result
-        (λ part. part.shapes ≡ flat_map (ready_shapes (shapes_of depth structures.now)) items.now) }
+        (λ part. part.shapes ≡ flat_map (ready_shapes (shapes_of depth flattening.now.structures.now)) items.now) }
     ensures labels { IfOk result
-        (λ part. part.labels ≡ flat_map (ready_labels (labels_of depth structures.now)) items.now) }
+        (λ part. part.labels ≡ flat_map (ready_labels (labels_of depth flattening.now.structures.now)) items.now) }
 {
     let mut part = nothing(alloc);
     for item in items {
-        add_item(alloc, structures, marks, table, depth, item, &mut part)?;
+        add_item(alloc, flattening, depth, item, &mut part)?;
     }
     Ok(part)
 }
@@ -177,25 +178,21 @@ fn part_with(
 #[cycle(flatten)]
 fn add_own(
     alloc: Global,
-    structures: &[WideStructure],
-    marks: &[bool],
-    table: &[Option<List<Ready>>],
+    flattening: &Flattening<'_>,
     depth: usize,
     item: &Item,
     flat: &mut Part,
 ) -> Result<(), Memory>
     requires depth { depth ≤ 64 }
-    requires items { AreItems (length structures.now) structures.now }
-    requires marks { MarksAll structures.now marks.now }
-    requires table { IsTable structures.now table.now }
-    requires item { IsItem (length structures.now) item.now }
+    requires flattening { IsFlattening flattening.now }
+    requires item { IsItem (length flattening.now.structures.now) item.now }
     ensures shapes { OnOk result (flat.new.shapes ≡ flat.old.shapes ++ item_shapes
-        (shapes_of depth structures.now) item.now) }
+        (shapes_of depth flattening.now.structures.now) item.now) }
     ensures labels { OnOk result (flat.new.labels ≡ flat.old.labels ++ item_labels
-        (labels_of depth structures.now) item.now) }
+        (labels_of depth flattening.now.structures.now) item.now) }
 {
-    match ready_item(alloc, structures, marks, item)? {
-        Some(ready) => add_item(alloc, structures, marks, table, depth, &ready, flat),
+    match ready_item(alloc, flattening.structures, flattening.marks, item)? {
+        Some(ready) => add_item(alloc, flattening, depth, &ready, flat),
         None => Ok(()),
     }
 }
@@ -204,25 +201,21 @@ fn add_own(
 #[cycle(flatten)]
 fn part_from(
     alloc: Global,
-    structures: &[WideStructure],
-    marks: &[bool],
-    table: &[Option<List<Ready>>],
+    flattening: &Flattening<'_>,
     depth: usize,
     items: &[Item],
 ) -> Result<Part, Memory>
     requires depth { depth ≤ 64 }
-    requires items { AreItems (length structures.now) structures.now }
-    requires marks { MarksAll structures.now marks.now }
-    requires table { IsTable structures.now table.now }
-    requires each { AllByRecursion (IsItem (length structures.now)) items.now }
+    requires flattening { IsFlattening flattening.now }
+    requires each { AllByRecursion (IsItem (length flattening.now.structures.now)) items.now }
     ensures shapes { IfOk result
-        (λ part. part.shapes ≡ flat_map (item_shapes (shapes_of depth structures.now)) items.now) }
+        (λ part. part.shapes ≡ flat_map (item_shapes (shapes_of depth flattening.now.structures.now)) items.now) }
     ensures labels { IfOk result
-        (λ part. part.labels ≡ flat_map (item_labels (labels_of depth structures.now)) items.now) }
+        (λ part. part.labels ≡ flat_map (item_labels (labels_of depth flattening.now.structures.now)) items.now) }
 {
     let mut part = nothing(alloc);
     for item in items {
-        add_own(alloc, structures, marks, table, depth, item, &mut part)?;
+        add_own(alloc, flattening, depth, item, &mut part)?;
     }
     Ok(part)
 }
@@ -232,34 +225,23 @@ fn part_from(
 #[cycle(flatten)]
 fn part_of(
     alloc: Global,
-    structures: &[WideStructure],
-    marks: &[bool],
-    table: &[Option<List<Ready>>],
+    flattening: &Flattening<'_>,
     depth: usize,
     number: u32,
 ) -> Result<Part, Memory>
     requires depth { depth ≤ 65 }
-    requires items { AreItems (length structures.now) structures.now }
-    requires marks { MarksAll structures.now marks.now }
-    requires table { IsTable structures.now table.now }
-    ensures shapes { IfOk result (λ part. part.shapes ≡ shapes_of depth structures.now number) }
-    ensures labels { IfOk result (λ part. part.labels ≡ labels_of depth structures.now number) }
+    requires flattening { IsFlattening flattening.now }
+    ensures shapes { IfOk result (λ part. part.shapes ≡ shapes_of depth flattening.now.structures.now number) }
+    ensures labels { IfOk result (λ part. part.labels ≡ labels_of depth flattening.now.structures.now number) }
 {
-    if depth == 0 || number as usize >= structures.len() {
+    if depth == 0 || number as usize >= flattening.structures.len() {
         return Ok(nothing(alloc));
     }
-    if let Some(Some(ready)) = table.get(number as usize) {
-        return part_with(alloc, structures, marks, table, depth - 1, ready.as_slice());
+    if let Some(Some(ready)) = flattening.table.get(number as usize) {
+        return part_with(alloc, flattening, depth - 1, ready.as_slice());
     }
-    let structure = &structures[number as usize];
-    part_from(
-        alloc,
-        structures,
-        marks,
-        table,
-        depth - 1,
-        structure.items.as_slice(),
-    )
+    let structure = &flattening.structures[number as usize];
+    part_from(alloc, flattening, depth - 1, structure.items.as_slice())
 }
 
 /// The flat form of a wide layout: that of the top structure, where a reference stands at each point of its grid for
@@ -271,6 +253,11 @@ pub fn flatten_wide(alloc: Global, wide: &WideLayout) -> Result<Flat, Memory>
     let structures = wide.structures.as_slice();
     let marks = marks(alloc, structures)?;
     let table = ready_table(alloc, structures, &marks, wide.top)?;
-    let Part { shapes, labels } = part_of(alloc, structures, &marks, &table, 65, wide.top)?;
+    let flattening = Flattening {
+        structures,
+        marks: &marks,
+        table: &table,
+    };
+    let Part { shapes, labels } = part_of(alloc, &flattening, 65, wide.top)?;
     Ok(Flat { shapes, labels })
 }

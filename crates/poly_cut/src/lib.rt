@@ -13,6 +13,7 @@ mod holding;
 mod kept;
 mod laws;
 mod layout;
+mod numbered;
 mod ready;
 mod slabs;
 mod strokes;
@@ -29,6 +30,7 @@ pub use laws::{
     squares_are_turned, structure_is_covered,
 };
 pub use layout::{Figure, Grid, Item, Point, Turn, WideLayout, WideStructure};
+pub use numbered::{Drawn, drawn_at};
 
 #[cfg(test)]
 mod tests;

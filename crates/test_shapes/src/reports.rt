@@ -1,17 +1,19 @@
 // What is in the first chip and in a row with a cell of each kind, and the lines of shapes and labels.
 ghost use Rattle.std.specs.Prelude.{◌+◌, ◌<◌, length};
+ghost use Rattle.poly_cut.specs.Conditions.{IsFlattenable};
 ghost use Rattle.shape_extract.specs.Extracts.{Extracts};
 
-use crate::fixtures::{INPUT, OUTPUT, chip};
+use crate::fixtures::{FIRST as STREAM, INPUT, OUTPUT, chip, read};
 use crate::kinds::row_of_kinds;
 use aq_base::MemSink;
 use cell_library::library_a;
 use geom::Flat;
+use poly_cut::{Drawn, WideLayout, drawn_at};
 use rule_check::check;
 use shape_extract::{Extracted, extract};
 use std::alloc::Global;
 use std::test::Fail;
-use text_report::{print_report, print_shape};
+use text_report::{print_label, print_report, print_shape};
 
 const FIRST: &[u8] =
     b"rows 2 cells 2 wires 1 delay 1\nbuffers 2 inverters 0 zeros 0 ones 0 splitters 0 0 majorities 0\njunctions 4\nwidth 8000 height 24000\nlongest 10000 of 180000\nskew 8000 even 8000 odd 8000\nrow 0 phase 0 cells 1 wires 1 longest 10000 skew 8000\nrow 1 phase 1 cells 1 wires 0 longest 0 skew 0\n";
@@ -61,20 +63,21 @@ fn reports(rt: HostRuntime) -> Result<(), Fail> {
 }
 
 // Prints the line of the number, if there is one.
-fn print(alloc: Global, flat: &Flat, number: u64, out: &mut MemSink) -> Result<bool, Fail> {
-    if flat.shapes.len() > 100 || flat.labels.len() > 100 {
-        return Err("more shapes".into());
+fn print(alloc: Global, wide: &WideLayout, number: u64, out: &mut MemSink) -> Result<bool, Fail>
+    requires { IsFlattenable wide.now }
+{
+    match drawn_at(alloc, wide, number)? {
+        Some(Drawn::Shape(shape)) => Ok(print_shape(alloc, number, &shape, out).is_ok()),
+        Some(Drawn::Label(label)) => Ok(print_label(alloc, number, &label, out).is_ok()),
+        None => Ok(false),
     }
-    let count = (flat.shapes.len() + flat.labels.len()) as u64;
-    if number >= count {
-        return Ok(false);
-    }
-    Ok(print_shape(alloc, flat, number, out).is_ok())
 }
 
 #[test]
 fn lines_of_shapes(rt: HostRuntime) -> Result<(), Fail> {
-    let flat = chip(rt.alloc(), &[], &[INPUT, OUTPUT])?;
+    let Ok(wide) = read(rt.alloc(), &STREAM) else {
+        return Err("refused".into());
+    };
     let rows: [(u64, bool, &[u8]); 6] = [
         (0, true, b"shape 0 layer 20 datatype 1 box 0 0 8000 10000\n"),
         (
@@ -93,7 +96,7 @@ fn lines_of_shapes(rt: HostRuntime) -> Result<(), Fail> {
     ];
     for (number, there, line) in rows {
         let mut out = MemSink::new(rt.alloc());
-        assert_eq!(rt; print(rt.alloc(), &flat, number, &mut out)?, there);
+        assert_eq!(rt; print(rt.alloc(), &wide, number, &mut out)?, there);
         assert_eq!(rt; out.bytes(), line);
     }
     Ok(())

@@ -118,12 +118,12 @@ fn faults_of_the_whole_are_found(rt: HostRuntime) -> Result<(), Fail> {
             StreamKind::Value,
         ),
     ];
-    for (at, taken, put, then, out, and, offset, kind) in rows {
+    for (at, taken, put, second_at, second_taken, second_put, offset, kind) in rows {
         let once = edited(rt.alloc(), &FIRST, Edit { at, taken, put })?;
         let edit = Edit {
-            at: then,
-            taken: out,
-            put: and,
+            at: second_at,
+            taken: second_taken,
+            put: second_put,
         };
         let bytes = edited(rt.alloc(), once.as_slice(), edit)?;
         assert!(rt;

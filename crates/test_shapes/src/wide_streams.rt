@@ -1,7 +1,11 @@
 // Tests of wide streams: their figures, placements and texts, chains and loops of references, and their faults.
+ghost use Rattle.poly_cut.specs.Conditions.{IsFlattenable};
+
 use crate::fixtures::{Edit, FIRST, edited, flat, is_bad, is_refused, read};
+use aq_base::Memory;
 use gds_read::{StreamKind, StreamRefusal};
 use geom::Rect;
+use poly_cut::{Drawn, WideLayout, drawn_at};
 use std::alloc::{AllocError, Global};
 use std::test::Fail;
 
@@ -224,6 +228,56 @@ fn arrays_are_placed_in_each_turn(rt: HostRuntime) -> Result<(), Fail> {
         let put = [flags, 0, 0, 0x0C, 0x1C, 0x05, first, second, third];
         let bytes = gridded(rt.alloc(), 218, &put)?;
         assert_eq!(rt; corners(rt.alloc(), bytes.as_slice()), Some(blocks));
+    }
+    Ok(())
+}
+
+// The array, mirrored and turned by a quarter, of the block and the first chip's label of input 0 beside it.
+fn labelled(alloc: Global) -> Result<Vec<u8>, AllocError> {
+    let turn = [0x80, 0, 0, 0x0C, 0x1C, 0x05, 0x42, 0x5A, 0];
+    let bytes = gridded(alloc, 218, &turn)?;
+    let put = &FIRST[962..1_000];
+    edited(
+        alloc,
+        bytes.as_slice(),
+        Edit {
+            at: 162,
+            taken: 0,
+            put,
+        },
+    )
+}
+
+// Whether it is a shape, and its lower left corner or its point.
+type Place = (bool, i64, i64);
+
+fn place_of(alloc: Global, wide: &WideLayout, number: u64) -> Result<Option<Place>, Memory>
+    requires { IsFlattenable wide.now }
+{
+    match drawn_at(alloc, wide, number)? {
+        Some(Drawn::Shape(shape)) => Ok(Some((true, shape.rect.x0, shape.rect.y0))),
+        Some(Drawn::Label(label)) => Ok(Some((false, label.x, label.y))),
+        None => Ok(None),
+    }
+}
+
+#[test]
+fn shapes_and_labels_are_found_by_number(rt: HostRuntime) -> Result<(), Fail> {
+    let bytes = labelled(rt.alloc())?;
+    let Ok(wide) = read(rt.alloc(), bytes.as_slice()) else {
+        return Err("refused".into());
+    };
+    let rows: [(u64, Option<Place>); 7] = [
+        (0, Some((true, 100, 200))),
+        (1, Some((true, 150, 200))),
+        (5, Some((true, 150, 340))),
+        (6, Some((false, 600, 3200))),
+        (7, Some((false, 650, 3200))),
+        (11, Some((false, 650, 3340))),
+        (12, None),
+    ];
+    for (number, place) in rows {
+        assert_eq!(rt; place_of(rt.alloc(), &wide, number)?, place);
     }
     Ok(())
 }

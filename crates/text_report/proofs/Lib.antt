@@ -9,7 +9,6 @@ mod Wired
 mod AddedWires
 mod Outlines
 mod Sided
-mod ShapeTexts
 mod PrintedRows
 mod Kept
 mod FirstReport

@@ -18,4 +18,4 @@ mod wire_tables;
 pub use kinds::Kinds;
 pub use laws::{first_chip_report, outline_is_least, wires_add_up};
 pub use printing::print_report;
-pub use shape_lines::print_shape;
+pub use shape_lines::{print_label, print_shape};

@@ -1,14 +1,12 @@
 // The line of a shape or a label.
-ghost use Rattle.std.specs.Prelude.{◌≡◌, ◌++◌, ◌<◌, OnOk, IfErr};
+ghost use Rattle.std.specs.Prelude.{◌≡◌, ◌++◌, OnOk, IfErr};
 ghost use Rattle.std.specs.Fmt.{signed_decimal};
 ghost use Rattle.aq_base.specs.Output.{printed};
-ghost use Rattle.geom.specs.FlatForm.{flat_count};
 ghost use Rattle.text_answers.specs.Printing.{PrintsWithin};
-ghost use Rattle.text_report.specs.ShapeLines.{point_text, corners_text, box_head, box_line, label_head};
-ghost use Rattle.text_report.specs.ShapeLines.{label_line, shape_line};
+ghost use Rattle.text_report.specs.ShapeLines.{point_text, corners_text, box_head, box_line, label_head, label_line};
 
 use aq_base::{Memory, Sink, StoreRefusal};
-use geom::{Flat, Label, Rect, Shape};
+use geom::{Label, Rect, Shape};
 use std::alloc::Global;
 
 fn add_signed(alloc: Global, number: i64, line: &mut Vec<u8>) -> Result<(), Memory>
@@ -95,36 +93,37 @@ fn add_label(alloc: Global, number: u64, label: &Label, line: &mut Vec<u8>) -> R
     Ok(())
 }
 
-/// Adds the line of the shape or label of a number.
-fn add_line(alloc: Global, flat: &Flat, number: u64, line: &mut Vec<u8>) -> Result<(), Memory>
-    requires { number < flat_count flat.now }
-    ensures { OnOk result (line.new.items ≡ line.old.items ++ shape_line flat.now number) }
-{
-    let shapes = flat.shapes.len() as u64;
-    if number < shapes {
-        add_box(alloc, number, flat.shapes.get(number as usize), line)
-    } else {
-        let label = flat.labels.get((number - shapes) as usize);
-        add_label(alloc, number, label, line)
-    }
-}
-
-/// Prints the line of the shape or label of a number in the flat form, where labels are counted after all shapes; the
-/// number is below that of all these. On a refusal some first bytes of the line were put.
+/// Prints the line of the shape of a number. On a refusal some first bytes of the line were put.
 #[tactic(auto, using(text_answers::proofs::Pages::texts))]
 pub fn print_shape<O: Sink>(
     alloc: Global,
-    flat: &Flat,
     number: u64,
+    shape: &Shape,
     out: &mut O,
 ) -> Result<(), StoreRefusal>
-    requires { number < flat_count flat.now }
-    ensures added { OnOk result (O.output out.new
-        ≡ printed (shape_line flat.now number) (O.output out.old)) }
-    ensures part { IfErr result (PrintsWithin (O.output out.old) (O.output out.new) (shape_line flat.now number)) }
+    ensures added { OnOk result (O.output out.new ≡ printed (box_line number shape.now) (O.output out.old)) }
+    ensures part { IfErr result (PrintsWithin (O.output out.old) (O.output out.new) (box_line number shape.now)) }
 {
     let mut line = Vec::new(alloc);
-    match add_line(alloc, flat, number, &mut line) {
+    match add_box(alloc, number, shape, &mut line) {
+        Ok(()) => out.put(line.as_slice()),
+        Err(Memory) => Err(StoreRefusal::Memory),
+    }
+}
+
+/// Prints the line of the label of a number. On a refusal some first bytes of the line were put.
+#[tactic(auto, using(text_answers::proofs::Pages::texts))]
+pub fn print_label<O: Sink>(
+    alloc: Global,
+    number: u64,
+    label: &Label,
+    out: &mut O,
+) -> Result<(), StoreRefusal>
+    ensures added { OnOk result (O.output out.new ≡ printed (label_line number label.now) (O.output out.old)) }
+    ensures part { IfErr result (PrintsWithin (O.output out.old) (O.output out.new) (label_line number label.now)) }
+{
+    let mut line = Vec::new(alloc);
+    match add_label(alloc, number, label, &mut line) {
         Ok(()) => out.put(line.as_slice()),
         Err(Memory) => Err(StoreRefusal::Memory),
     }
