@@ -6,7 +6,7 @@ use Rattle.aq_base.specs.History.{Event, Created, took}
 use Rattle.aq_base.specs.Output.{Output}
 use Rattle.geom.specs.declared.layout.Layout.{Layout}
 use Rattle.geom.specs.declared.shapes.Flat.{Flat}
-use Rattle.geom.specs.FlatForm.{flat_of, flat_count}
+use Rattle.geom.specs.FlatForm.{flat_of, flat_count, shape_limit}
 use Rattle.geom.specs.Writable.{IsWritable}
 use Rattle.gds_records.specs.Stream.{IsStream}
 use Rattle.gds_records.specs.Writing.{bytes_of}
@@ -26,12 +26,13 @@ use Rattle.circuit_extracted.specs.Circuits.{CircuitView, KeepsFacts}
 use Rattle.shape_extract.specs.Extraction.{IsCircuitOf}
 use Rattle.layout_make.specs.Draw.{draw}
 use Rattle.layout_make.specs.MayDraw.{MayDraw}
-use Rattle.layout_make.specs.Size.{element_number, element_limit}
+use Rattle.layout_make.specs.Size.{element_number}
+use Rattle.rowed.specs.Limits.{element_limit}
 use Rattle.pulse_sim.specs.Shows.{Shows}
 use Rattle.pulse_sim.specs.Clocked.{ShowsByClocks}
 use Rattle.text_answers.specs.Counts.{delay_of}
 use Rattle.layout_realises.specs.Realises.{Realises}
-use Rattle.layout_realises.specs.RealisesNet.{RealisesNet, most_bytes, most_shapes}
+use Rattle.layout_realises.specs.RealisesNet.{RealisesNet, most_bytes}
 use Rattle.layout_realises.proofs.RealisesAs.{realises_as}
 use Rattle.layout_realises.proofs.ShownByTicks.{shown_by_ticks}
 use Rattle.aqfp_top.specs.Chips.{IsChipOfTexts, IsPlannedChip}
@@ -128,7 +129,7 @@ module _ (laws : Laws) (net lib bytes : List ℕ) (out after : Output) (equation
         realises = whole;
         stream = subst (λ b. IsStream b whole.layout) (sym whole.stream) (laws.stream whole.layout whole.writable);
         short = subst (λ b. length b < most_bytes) (sym drawing) made.short;
-        small = subst (λ layout. flat_count (flat_of layout) ≤ most_shapes) (sym drawn_whole) made.small;
+        small = subst (λ layout. flat_count (flat_of layout) ≤ shape_limit) (sym drawn_whole) made.small;
         circuit_keeps = keeps;
         shows = λ words wide. shown_by_ticks equations.inputs (length equations.outputs) (IsAnswer equations)
             (λ word answer width. answer_length equations word answer) chip.circuit whole.input_count

@@ -11,7 +11,8 @@ use Rattle.cell_library.specs.Library.{LibraryView}
 use Rattle.cell_library.specs.Says as library
 use Rattle.gds_records.specs.Writing.{bytes_of}
 use Rattle.layout_make.specs.Draw.{draw}
-use Rattle.layout_make.specs.Size.{element_number, element_limit}
+use Rattle.layout_make.specs.Size.{element_number}
+use Rattle.rowed.specs.Limits.{element_limit}
 use Rattle.plan_build.specs.Plans.{IsWithin, chip_of}
 use Rattle.plan_build.specs.Refusals.{Refuses}
 use Rattle.plan_build.specs.declared.refusal.PlanRefusal.{PlanRefusal}

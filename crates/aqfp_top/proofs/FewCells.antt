@@ -11,7 +11,7 @@ use Rattle.std.proofs.lemmas.Map.Steps.{length-le_from_distinct_below}
 use Rattle.std.proofs.lemmas.Slice.Zip.{AllZip-long}
 use Rattle.geom.specs.declared.shapes.Shape.{Shape}
 use Rattle.geom.specs.declared.shapes.Flat.{Flat}
-use Rattle.geom.specs.FlatForm.{flat_count}
+use Rattle.geom.specs.FlatForm.{flat_count, shape_limit}
 use Rattle.poly_cut.specs.FlatForm.{wide_flat}
 use Rattle.layout_rules.specs.Pins.{is_entry}
 use Rattle.layout_rules.proofs.PlaceLaws.{list_any-place}
@@ -62,7 +62,7 @@ module _ (shapes : List Shape) (frames : List ℕ) (are : AreFrames shapes frame
   frames_few : length frames ≤ length shapes
   frames_few = length-le_from_distinct_below frames (length shapes) (IsDistinct-from_apart eqb frames apart) within
 
-cells_few : (flat : Flat) (circuit : CircuitView) → IsCircuitOf flat circuit → flat_count flat ≤ 8000000
+cells_few : (flat : Flat) (circuit : CircuitView) → IsCircuitOf flat circuit → flat_count flat ≤ shape_limit
     → circuit.inputs + length circuit.cells < 2 ^ 32
 cells_few flat circuit is few =
     let inputs : circuit.inputs ≤ length flat.shapes = subst (λ n. n ≤ length flat.shapes) (sym is.inputs)

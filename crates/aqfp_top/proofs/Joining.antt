@@ -4,7 +4,7 @@ use Rattle.std.specs.Prelude.{All}
 use Rattle.std.specs.List.{flat_map}
 use Rattle.geom.specs.declared.layout.Layout.{Layout}
 use Rattle.geom.specs.declared.shapes.Flat.{Flat}
-use Rattle.geom.specs.FlatForm.{flat_of, flat_count}
+use Rattle.geom.specs.FlatForm.{flat_of, flat_count, shape_limit}
 use Rattle.geom.specs.Writable.{IsWritable}
 use Rattle.poly_cut.specs.declared.layout.WideLayout.{WideLayout}
 use Rattle.poly_cut.specs.FlatForm.{wide_flat}
@@ -25,7 +25,8 @@ use Rattle.circuit_extracted.specs.Circuits.{CircuitView, KeepsFacts}
 use Rattle.shape_extract.specs.Extraction.{IsCircuitOf}
 use Rattle.layout_make.specs.Draw.{draw}
 use Rattle.layout_make.specs.MayDraw.{MayDraw}
-use Rattle.layout_make.specs.Size.{element_number, element_limit}
+use Rattle.layout_make.specs.Size.{element_number}
+use Rattle.rowed.specs.Limits.{element_limit}
 use Rattle.pulse_sim.specs.Shows.{Shows}
 use Rattle.pulse_sim.specs.Clocked.{ShowsByClocks}
 use Rattle.text_answers.specs.Counts.{counts_line, counts_text, delay_of}
@@ -111,13 +112,13 @@ module _ (laws : Laws) (net : NetView) (placed : PlacedView) (cells : LibraryVie
   same : wide_flat (wide_layout_in (stream_of placed cells)) ≡ flat_of chip.layout
   same = laws.same_flat (stream_of placed cells) chip.layout made_of_bytes stream
 
-  few : flat_count (flat_of chip.layout) ≤ 8000000
-  few = subst (λ layout. flat_count (flat_of layout) ≤ 8000000) (sym (layout_is chip.layout stream)) made.small
+  few : flat_count (flat_of chip.layout) ≤ shape_limit
+  few = subst (λ layout. flat_count (flat_of layout) ≤ shape_limit) (sym (layout_is chip.layout stream)) made.small
 
   read : IsLayoutOf (stream_of placed cells) (wide_layout_in (stream_of placed cells))
   read = record {
     stream = laws.is_wide (stream_of placed cells) chip.layout made_of_bytes stream;
-    within = subst (λ flat. flat_count flat ≤ 8000000) (sym same) few;
+    within = subst (λ flat. flat_count flat ≤ shape_limit) (sym same) few;
   }
 
   sound : (lib text : List ℕ) → library.SaysLibrary lib cells → SaysWords net.inputs text →

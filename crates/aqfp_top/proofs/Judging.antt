@@ -1,7 +1,7 @@
 -- From the faults of the steps that judge a chip's texts to what the stages answer.
 use Rattle.std.proofs.Common.{ℕ, List, [], ◌∷◌, Some, None, Result, Ok, Err, IfOk, IfErr, OnOk, subst, sym, ◌≡◌, ◌≤◌}
 use Rattle.std.proofs.Common.{◌<◌, ◌^◌, arith}
-use Rattle.geom.specs.FlatForm.{flat_count}
+use Rattle.geom.specs.FlatForm.{flat_count, shape_limit}
 use Rattle.poly_cut.specs.declared.layout.WideLayout.{WideLayout}
 use Rattle.poly_cut.specs.Conditions.{IsFlattenable}
 use Rattle.poly_cut.specs.Counts.{wide_count}
@@ -46,12 +46,12 @@ use Rattle.aqfp_top.specs.declared.fault.Fault.TheVariants.{Memory}
 pub is_layout_of : ((layout : WideLayout) → wide_count layout ≡ flat_count (wide_flat layout))
     → (gds : List ℕ) (layout : WideLayout) → IsWideReadAs gds layout → IsLayoutOf gds layout
 is_layout_of exact gds layout read =
-    record { stream = read.stream; within = subst (λ n. n ≤ 8000000) (exact layout) read.flattenable.within }
+    record { stream = read.stream; within = subst (λ n. n ≤ shape_limit) (exact layout) read.flattenable.within }
 
 pub few_shapes : ((layout : WideLayout) → wide_count layout ≡ flat_count (wide_flat layout))
     → (layout : WideLayout) (flat : Flat) → IsFlattenable layout → flat ≡ wide_flat layout → flat_count flat < 2 ^ 32
 few_shapes exact layout flat can is =
-    let few : flat_count (wide_flat layout) ≤ 8000000 = subst (λ n. n ≤ 8000000) (exact layout) can.within in
+    let few : flat_count (wide_flat layout) ≤ shape_limit = subst (λ n. n ≤ shape_limit) (exact layout) can.within in
     subst (λ f. flat_count f < 2 ^ 32) (sym is) (omega (arith, few))
 
 pub too_large : (gds : List ℕ) (refusal : StreamRefusal) (count : ℕ) → refusal ≡ TooManyShapes count

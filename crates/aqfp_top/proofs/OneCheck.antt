@@ -7,7 +7,7 @@ use Rattle.std.proofs.lemmas.List.{get_or-take, length-take}
 use Rattle.std.proofs.lemmas.Option.{get_or_from_slice_get, slice_get_within}
 use Rattle.std.specs.Str.Lines.{lines}
 use Rattle.geom.specs.declared.shapes.Flat.{Flat}
-use Rattle.geom.specs.FlatForm.{flat_count}
+use Rattle.geom.specs.FlatForm.{flat_count, shape_limit}
 use Rattle.poly_cut.specs.declared.layout.WideLayout.{WideLayout}
 use Rattle.poly_cut.specs.FlatForm.{wide_flat}
 use Rattle.poly_cut.specs.Counts.{told, wide_count}
@@ -85,7 +85,7 @@ same_line width text a b p q = elim (cases_order p.index q.index) [
 ]
 
 -- a number as 64 bits tell it is not above it
-not_above : (n count : ℕ) → n ≤ 8000000 → count ≡ told n → 8000000 < count → ⊥
+not_above : (n count : ℕ) → n ≤ shape_limit → count ≡ told n → shape_limit < count → ⊥
 not_above n count fits is above = let less : told n ≤ n = min-le_left n (2 ^ 64 - 1) in omega
     (arith, fits, above, is, less)
 
@@ -113,8 +113,8 @@ module _ (one_layout : (bytes : List ℕ) (layout other : WideLayout) → IsWide
     not_large : (gds : List ℕ) (count : ℕ) (layout : WideLayout) → IsWideTooLarge gds count → IsLayoutOf gds layout → ⊥
     not_large gds count layout large read =
         let same : large.layout ≡ layout = one_layout gds large.layout layout large.stream read.stream in
-        let fits : flat_count (wide_flat layout) ≤ 8000000 = read.within in
-        let above : 8000000 < count = large.above in
+        let fits : flat_count (wide_flat layout) ≤ shape_limit = read.within in
+        let above : shape_limit < count = large.above in
         let is : count ≡ told (flat_count (wide_flat layout)) = large.count_is
         ∙ ap told (ap wide_count same ∙ exact layout) in
         not_above (flat_count (wide_flat layout)) count fits is above

@@ -20,7 +20,8 @@ use Rattle.cell_library.specs.declared.fault.LibraryFault.{LibraryFault}
 use Rattle.cell_library.specs.declared.fault.LibraryFault.TheVariants.{Text, Key, Value, Law, Missing}
 use Rattle.circuit.specs.declared.cell_kind.CellKind.{CellKind}
 use Rattle.blif_read.specs.declared.netlist.BlifFault.{BlifFault}
-use Rattle.layout_make.specs.Size.{element_number, element_limit}
+use Rattle.layout_make.specs.Size.{element_number}
+use Rattle.rowed.specs.Limits.{element_limit}
 use Rattle.plan_build.specs.Plans.{IsWithin, chip_of}
 use Rattle.plan_build.specs.Refusals.{Refuses}
 use Rattle.plan_build.specs.declared.refusal.PlanRefusal.{PlanRefusal}

@@ -10,7 +10,8 @@ use Rattle.blif_read.specs.Says as netlist
 use Rattle.blif_read.specs.Equations.{IsAnswer}
 use Rattle.cell_library.specs.Library.{LibraryView}
 use Rattle.cell_library.specs.LibraryA.{library_a_view}
-use Rattle.layout_make.specs.Size.{element_number, element_limit}
+use Rattle.layout_make.specs.Size.{element_number}
+use Rattle.rowed.specs.Limits.{element_limit}
 use Rattle.plan_build.specs.Plans.{chip_of}
 use Rattle.sample_adder.specs.Adder.{adder}
 use Rattle.sample_adder.specs.EightWords.{eight}

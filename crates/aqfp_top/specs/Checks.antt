@@ -1,7 +1,7 @@
 -- What verify and trace make of the texts of a layout, of a library and of words: their circuit, or a fault of the
 -- stream, of its size, of the rules or of the words; and what they print.
 use Rattle.std.specs.Prelude.{ℕ, ◌≤◌, Bool, List}
-use Rattle.geom.specs.FlatForm.{flat_count}
+use Rattle.geom.specs.FlatForm.{flat_count, shape_limit}
 use Rattle.poly_cut.specs.declared.layout.WideLayout.{WideLayout}
 use Rattle.poly_cut.specs.FlatForm.{wide_flat}
 use Rattle.gds_records.specs.Stream.{IsWideStream}
@@ -25,7 +25,7 @@ use Rattle.aqfp_top.specs.declared.fault.Fault.TheVariants.{TooLarge, BadStream,
 -- the bytes are a wide stream of this layout, whose flat form is of a size that is taken
 pub record IsLayoutOf (gds : List ℕ) (layout : WideLayout) : Type 0 where
   pub stream : IsWideStream gds layout
-  pub within : flat_count (wide_flat layout) ≤ 8000000
+  pub within : flat_count (wide_flat layout) ≤ shape_limit
 
 -- the layout's shapes break a rule with the numbers of the library: this one first
 pub record IsUnruly (gds lib : List ℕ) (rule : Rule) (first second : ℕ) : Type 0 where

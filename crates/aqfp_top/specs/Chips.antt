@@ -3,7 +3,7 @@
 use Rattle.std.specs.Prelude.{◌≡◌, ◌<◌, ◌≤◌, ℕ, Bool, All, List, length}
 use Rattle.aq_base.specs.Output.{Output}
 use Rattle.aq_base.specs.Output as output
-use Rattle.geom.specs.FlatForm.{flat_of, flat_count}
+use Rattle.geom.specs.FlatForm.{flat_of, flat_count, shape_limit}
 use Rattle.gds_records.specs.Stream.{IsStream}
 use Rattle.layout_rules.specs.Limits.{Limits}
 use Rattle.blif_read.specs.Parts.{NetView}
@@ -15,7 +15,7 @@ use Rattle.circuit_extracted.specs.Circuits.{CircuitView, KeepsFacts}
 use Rattle.pulse_sim.specs.Shows.{Shows}
 use Rattle.text_answers.specs.Counts.{counts_line, delay_of}
 use Rattle.layout_realises.specs.Realises.{Realises}
-use Rattle.layout_realises.specs.RealisesNet.{most_bytes, most_shapes}
+use Rattle.layout_realises.specs.RealisesNet.{most_bytes}
 
 -- The bytes are a chip of the two texts: they realise what NET's text answers, under the numbers that LIB's text gives,
 -- by every clock whose windows keep clear; and `out` has the counts of their circuit.
@@ -35,7 +35,7 @@ pub record IsPlannedChip (equations : NetView) (cells : LibraryView) (bytes : Li
       circuit (delay_of circuit)
   pub stream : IsStream bytes realises.layout
   pub short : length bytes < most_bytes
-  pub small : flat_count (flat_of realises.layout) ≤ most_shapes
+  pub small : flat_count (flat_of realises.layout) ≤ shape_limit
   pub circuit_keeps : KeepsFacts circuit
   pub shows : (words : List (List Bool)) (wide : All (λ word. length word ≡ equations.inputs) words)
       → Shows circuit (delay_of circuit) words (realises.answers_all words wide).replies

@@ -16,7 +16,8 @@ use Rattle.cell_library.specs.declared.fault.LibraryFault.TheVariants.{Text, Mis
 use Rattle.gds_records.specs.Writing.{bytes_of}
 use Rattle.text_answers.specs.Counts.{counts_text}
 use Rattle.layout_make.specs.Draw.{draw}
-use Rattle.layout_make.specs.Size.{element_number, element_limit}
+use Rattle.layout_make.specs.Size.{element_number}
+use Rattle.rowed.specs.Limits.{element_limit}
 use Rattle.layout_make.specs.MayDraw.{MayDraw}
 use Rattle.plan_build.specs.Laws.{AnswersAs}
 use Rattle.plan_build.specs.Plans.{IsWithin, chip_of, three_of}

@@ -7,9 +7,7 @@ use crate::sparing::spare;
 use crate::trimming::drop_rows;
 use crate::weaving::woven_rows;
 use aq_base::Memory;
-
-/// A draft has at most so many cells.
-pub const MOST_CELLS: u64 = 2_000_000;
+use rowed::limits::CELL_LIMIT;
 
 /// A placed chip of more hundredths of the cells that one of use may have, missing ones counted, is given up: what is
 /// done to it afterwards never leaves out two cells of three.
@@ -158,7 +156,7 @@ fn finish_short(
     effort: Effort,
 ) -> Result<Candidate, Memory> {
     let Some(woven) = woven(work, &candidate, effort)? else {
-        return grow_pulled(work, candidate, MOST_CELLS, effort);
+        return grow_pulled(work, candidate, CELL_LIMIT, effort);
     };
     let is_done = woven.missing == 0;
     if is_done && candidate.places.move_limit == 1 {
@@ -167,7 +165,7 @@ fn finish_short(
     let most = if is_done {
         woven.total.saturating_mul(2)
     } else {
-        MOST_CELLS
+        CELL_LIMIT
     };
     let left = work.steps;
     work.steps = Steps::new(&effort, candidate.chip.count());
@@ -183,13 +181,13 @@ pub fn finish(work: &mut Work, candidate: Candidate, effort: Effort) -> Result<C
         return Ok(candidate);
     }
     if candidate.missing == 0 || !effort.weaves {
-        return grow_pulled(work, candidate, MOST_CELLS, effort);
+        return grow_pulled(work, candidate, CELL_LIMIT, effort);
     }
     if candidate.places.move_limit < SHORT_LIMIT {
         return finish_short(work, candidate, effort);
     }
     let copy = candidate.copy(work.alloc)?;
-    let grown = grow_pulled(work, copy, MOST_CELLS, effort)?;
+    let grown = grow_pulled(work, copy, CELL_LIMIT, effort)?;
     if grown.missing == 0 {
         return Ok(grown);
     }
@@ -221,7 +219,7 @@ fn trim_once(
         effort.round_sweeps,
         effort,
     )?;
-    grow(work, trimmed, MOST_CELLS, short)
+    grow(work, trimmed, CELL_LIMIT, short)
 }
 
 /// The candidate with some rows of buffers left out and others added so often, as far as that takes cells away.

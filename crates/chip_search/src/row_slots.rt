@@ -10,10 +10,8 @@ use crate::row_chips::RowChip;
 use crate::starting::{Hints, place, place_packed};
 use aq_base::{List, Memory};
 use rowed::RowNet;
+use rowed::limits::ELEMENT_LIMIT;
 use std::alloc::Global;
-
-/// A drawing has at most so many elements: one for each cell, five for each wire, and others.
-const MOST_ELEMENTS: u64 = 2_000_000;
 
 /// So many turns are taken after each start.
 const TURNS: u32 = 6;
@@ -63,10 +61,10 @@ fn near_rows(work: Work, made: &RowChip, effort: Effort) -> Result<Option<Vec<u3
     near_starts(work, &made.chip, &hints, effort)
 }
 
-/// Whether the cells and wires are too many to be drawn.
+/// Whether the cells and wires are too many to be drawn: an element for each cell, five for each wire, and others.
 pub(crate) fn is_too_large(chip: &Chip) -> bool {
     let wires = (chip.wires.len() as u64).saturating_mul(5);
-    wires.saturating_add(u64::from(chip.count())) > MOST_ELEMENTS
+    wires.saturating_add(u64::from(chip.count())) > ELEMENT_LIMIT
 }
 
 /// The slots of the cells of each row.

@@ -1,7 +1,7 @@
 -- The passes over the first chip's netlist, computed.
 use Rattle.std.proofs.Common.{◌≡◌, ◌*◌, refl, true, length}
 use Rattle.std.proofs.lemmas.Bool.{leb-true}
-use Rattle.rowed.specs.Extent.{cell_limit, height_limit}
+use Rattle.rowed.specs.Limits.{cell_limit, height_limit}
 use Rattle.maj_mapping.specs.Plan.{start, leave_by, visit, mapped, map_net}
 use Rattle.level_balance.specs.Counts.{cell_count}
 use Rattle.level_balance.specs.Plan.{frame, laid, level_net}

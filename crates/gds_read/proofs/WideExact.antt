@@ -1,5 +1,6 @@
 -- Why a reader of wide streams refuses, where it does.
 use Rattle.std.proofs.Common.{◌≡◌, ◌⊎◌, inl, inr, ℕ, ◌<◌, ◌≤◌, List, Option, Some, None, refl, sym, ap, ◌∙◌, arith}
+use Rattle.geom.specs.FlatForm.{shape_limit}
 use Rattle.poly_cut.specs.declared.layout.WideLayout.{WideLayout}
 use Rattle.poly_cut.specs.Counts.{wide_count, told}
 use Rattle.gds_records.specs.declared.fault.StreamKind.{StreamKind}
@@ -45,14 +46,14 @@ module _ (found : (bytes : List ℕ) (layout : WideLayout) → IsWideStream byte
       clash (Some p) e f = cc
 
   pub none_taken : (bytes : List ℕ) (layout : WideLayout) (refusal : StreamRefusal) → IsWideStream bytes layout
-      → wide_count layout ≤ 8000000 → IsWideRefusedFor bytes refusal → refusal ≡ Memory
+      → wide_count layout ≤ shape_limit → IsWideRefusedFor bytes refusal → refusal ≡ Memory
   none_taken bytes layout (Bad offset kind) s h r = absurd (never bytes layout offset kind s r)
   none_taken bytes layout (TooManyShapes count) s h r = absurd
       (omega (arith, h, r.above, r.count_is, size_is bytes layout r.layout s r.stream))
   none_taken bytes layout Memory s h r = refl
 
   pub by_size : (bytes : List ℕ) (layout : WideLayout) (refusal : StreamRefusal) → IsWideStream bytes layout
-      → 8000000 < wide_count layout → IsWideRefusedFor bytes refusal
+      → shape_limit < wide_count layout → IsWideRefusedFor bytes refusal
       → (refusal ≡ TooManyShapes (told (wide_count layout))) ⊎ (refusal ≡ Memory)
   by_size bytes layout (Bad offset kind) s h r = absurd (never bytes layout offset kind s r)
   by_size bytes layout (TooManyShapes count) s h r = inl
@@ -70,7 +71,7 @@ module _ (found : (bytes : List ℕ) (layout : WideLayout) → IsWideStream byte
   by_fault bytes offset kind Memory f r = inr refl
 
   pub not_read_large : (bytes : List ℕ) (layout other : WideLayout) → IsWideStream bytes layout
-      → 8000000 < wide_count layout → IsWideReadAs bytes other → ⊥
+      → shape_limit < wide_count layout → IsWideReadAs bytes other → ⊥
   not_read_large bytes layout other s h r = omega
       (arith, h, r.flattenable.within, size_is bytes layout other s r.stream)
 

@@ -5,6 +5,7 @@ use Rattle.std.specs.Prelude.{Result, Ok, Err, IfOk}
 use Rattle.std.specs.List.{flat_map, AllByRecursion}
 use Rattle.std.proofs.lemmas.List.{length-map, map-append}
 use Rattle.std.proofs.lemmas.List.Concat.{flat_map-cons}
+use Rattle.geom.specs.FlatForm.{shape_limit}
 use Rattle.poly_cut.specs.declared.layout.Item.{Item}
 use Rattle.poly_cut.specs.declared.layout.Item.TheVariants.{Draw, Place, Text}
 use Rattle.poly_cut.specs.declared.layout.WideStructure.{WideStructure}
@@ -288,7 +289,7 @@ module _ (rs : List Record) (shapes : AllByRecursion (IsShapedIn wide_element) (
       short_drawn outlined.structures outlined.same (all_short outlined.structures fresh none) n
 
   flattens : AllByRecursion HasBytes rs → AreGoodIn wide [] rs → wide_whole_fault rs ≡ None
-      → ((n : ℕ) → goes_down 65 (wide_structures_of rs) n ≡ false) → wide_count (wide_layout_of rs) ≤ 8000000
+      → ((n : ℕ) → goes_down 65 (wide_structures_of rs) n ≡ false) → wide_count (wide_layout_of rs) ≤ shape_limit
       → IsFlattenable (wide_layout_of rs)
   flattens bytes good e short within =
       let u = none_of (unknown (all_uses (outlines 0 rs)) (outlines 0 rs)) _ _ e in
@@ -313,7 +314,7 @@ pub wide_read : (bytes : List ℕ) (end : ℕ) (records : List ℕ) (layout : Wi
     (r : Result WideLayout StreamRefusal) → IsBytes bytes → IsBody bytes end → records ≡ take end bytes
     → layout ≡ wide_layout_of (records_in records) → wide_whole_fault (records_in records) ≡ None
     → AreOutlined (records_in records)
-    → IfOk r (λ taken. taken ≡ layout) → IfOk r (λ taken. wide_count layout ≤ 8000000)
+    → IfOk r (λ taken. taken ≡ layout) → IfOk r (λ taken. wide_count layout ≤ shape_limit)
     → IfOk r (λ taken. IsWideReadAs bytes taken)
 wide_read bytes end records layout (Err refusal) fits b front says none outlined same within = tt
 wide_read bytes end records layout (Ok taken) fits b front says none outlined same within =
@@ -327,7 +328,7 @@ wide_read bytes end records layout (Ok taken) fits b front says none outlined sa
     let flat : IsFlattenable (wide_layout_of rs) =
     flattens rs shapes (all_bytes rs (bytes_front (flat_map spelled rs) (drop end bytes) low)) b.read.good no_fault
     (all_drawn_short rs shapes b.read.grammar b.read.good no_fault told)
-    (subst (λ (w : WideLayout). wide_count w ≤ 8000000) said within) in
+    (subst (λ (w : WideLayout). wide_count w ≤ shape_limit) said within) in
     let is : IsWideReadAs bytes layout = record {
       stream = record {
         records = rs;

@@ -1,5 +1,6 @@
 -- What reading bytes as a wide stream answers.
 use Rattle.std.specs.Prelude.{◌≡◌, ℕ, ◌<◌, List}
+use Rattle.geom.specs.FlatForm.{shape_limit}
 use Rattle.poly_cut.specs.declared.layout.WideLayout.{WideLayout}
 use Rattle.poly_cut.specs.Conditions.{IsFlattenable}
 use Rattle.poly_cut.specs.Counts.{wide_count, told}
@@ -18,7 +19,7 @@ pub record IsWideTooLarge (bytes : List ℕ) (count : ℕ) : Type 0 where
   pub layout : WideLayout
   pub stream : IsWideStream bytes layout
   pub count_is : count ≡ told (wide_count layout)
-  pub above : 8000000 < count
+  pub above : shape_limit < count
 
 -- why the bytes are not read: their first fault, their size, or want of memory
 abbrev pub IsWideRefusedFor : List ℕ → StreamRefusal → Type 0

@@ -1,7 +1,7 @@
 // Laws of reading, for the crates above.
 ghost use Rattle.std.specs.Prelude.{◌≡◌, ◌⊎◌, ◌<◌, ◌≤◌, ℕ, List};
 ghost use Rattle.geom.specs.declared.layout.Layout.{Layout};
-ghost use Rattle.geom.specs.FlatForm.{flat_of};
+ghost use Rattle.geom.specs.FlatForm.{flat_of, shape_limit};
 ghost use Rattle.gds_records.specs.declared.fault.StreamKind.{StreamKind};
 ghost use Rattle.gds_records.specs.Stream.{IsStream, IsWideStream};
 ghost use Rattle.gds_records.specs.Scan.{IsBytes, wide_layout_in};
@@ -20,15 +20,15 @@ use gds_records::{one_wide_reading, rectangles_are_rings, strict_streams_are_wid
 /// alone.
 pub fn wide_reading_is_exact()
     ensures taken { (bytes : List ℕ) (layout : WideLayout) (refusal : StreamRefusal)
-        → IsWideStream bytes layout → wide_count layout ≤ 8000000 → IsWideRefusedFor bytes refusal → refusal ≡ Memory }
+        → IsWideStream bytes layout → wide_count layout ≤ shape_limit → IsWideRefusedFor bytes refusal → refusal ≡ Memory }
     ensures large { (bytes : List ℕ) (layout : WideLayout) (refusal : StreamRefusal)
-        → IsWideStream bytes layout → 8000000 < wide_count layout → IsWideRefusedFor bytes refusal
+        → IsWideStream bytes layout → shape_limit < wide_count layout → IsWideRefusedFor bytes refusal
         → (refusal ≡ TooManyShapes (told (wide_count layout))) ⊎ (refusal ≡ Memory) }
     ensures faulty { (bytes : List ℕ) (offset : ℕ) (kind : StreamKind) (refusal : StreamRefusal)
         → WideFault bytes offset kind → IsWideRefusedFor bytes refusal
         → (refusal ≡ Bad offset kind) ⊎ (refusal ≡ Memory) }
     ensures unread_large { (bytes : List ℕ) (layout other : WideLayout)
-        → IsWideStream bytes layout → 8000000 < wide_count layout → IsWideReadAs bytes other → ⊥ }
+        → IsWideStream bytes layout → shape_limit < wide_count layout → IsWideReadAs bytes other → ⊥ }
     ensures unread_faulty { (bytes : List ℕ) (offset : ℕ) (kind : StreamKind) (layout : WideLayout)
         → WideFault bytes offset kind → IsWideReadAs bytes layout → ⊥ }
 {

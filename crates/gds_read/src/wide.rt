@@ -1,5 +1,6 @@
 // Bytes read as a wide stream.
 ghost use Rattle.std.specs.Prelude.{◌≡◌, ◌<◌, ◌≤◌, ◌^◌, length, None, IfOk, IfErr};
+ghost use Rattle.geom.specs.FlatForm.{shape_limit};
 ghost use Rattle.poly_cut.specs.Counts.{wide_count};
 ghost use Rattle.gds_records.specs.Stream.{wide_layout_of};
 ghost use Rattle.gds_records.specs.WideWhole.{wide_whole_fault};
@@ -21,7 +22,7 @@ use poly_cut::{WideLayout, count_flat};
 use std::alloc::Global;
 
 /// How many shapes and labels a flat form may have.
-const MOST: u64 = 8_000_000;
+const SHAPE_LIMIT: u64 = 8_000_000;
 
 // The layout of the records of a wide stream, if they meet the conditions on the whole.
 fn layout_of(alloc: Global, hash: NameHash, bytes: &[u8]) -> Result<WideLayout, StreamRefusal>
@@ -47,11 +48,11 @@ fn layout_of(alloc: Global, hash: NameHash, bytes: &[u8]) -> Result<WideLayout, 
 // The layout, if its flat form is of a size that is taken.
 fn within_size(alloc: Global, layout: WideLayout) -> Result<WideLayout, StreamRefusal>
     ensures same { IfOk result (λ taken. taken ≡ layout) }
-    ensures within { IfOk result (λ taken. wide_count layout ≤ 8000000) }
+    ensures within { IfOk result (λ taken. wide_count layout ≤ shape_limit) }
     ensures err { IfErr result (λ refusal. IsOversize layout refusal) }
 {
     let count = count_flat(alloc, &layout)?;
-    if count > MOST {
+    if count > SHAPE_LIMIT {
         return Err(StreamRefusal::TooManyShapes { count });
     }
     Ok(layout)

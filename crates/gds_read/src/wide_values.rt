@@ -219,8 +219,9 @@ fn transform_fault(element: u8, holds: bool) -> Option<StreamKind>
     }
 }
 
-/// What is wrong with the value of a record of a wide stream, in an element that this record opened and behind this
-/// COLROW.
+/// What is wrong with the value of a record of a wide stream. `element` is the kind of the record that opened the
+/// element, as BOUNDARY or AREF, `colrow` the content of the last COLROW, and `taken` says whether the name that this
+/// record may hold is an earlier structure's.
 pub fn wide_fault(
     alloc: Global,
     element: u8,

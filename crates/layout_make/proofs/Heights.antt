@@ -2,7 +2,7 @@
 use Rattle.std.proofs.Common.{ℕ, zero, suc, ◌+◌, ◌-◌, ◌*◌, ◌<◌, ◌≤◌, arith, length}
 use Rattle.std.proofs.Math.Nat.{mul-le-mul_right}
 use Rattle.rowed.specs.PlacedNets.{PlacedView}
-use Rattle.rowed.specs.Extent.{height_limit}
+use Rattle.rowed.specs.Limits.{height_limit}
 use Rattle.channel_route.specs.Tracks.{tracks_used}
 use Rattle.cell_library.specs.Library.{LibraryView}
 use Rattle.layout_make.specs.Sheet.{edge, lower_edge}

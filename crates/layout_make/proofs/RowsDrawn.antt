@@ -37,7 +37,8 @@ use Rattle.layout_make.specs.Sheet.{Lead, Over, RightOf, lead_first, lead_use, l
 use Rattle.layout_make.specs.Spots.{Spot, spots_of, spots}
 use Rattle.layout_make.proofs.ReadyNets.{IsReady}
 use Rattle.layout_make.specs.Channel.{pin_wire, wires_into, from_of, channel}
-use Rattle.layout_make.specs.Size.{element_number, element_limit}
+use Rattle.layout_make.specs.Size.{element_number}
+use Rattle.rowed.specs.Limits.{element_limit}
 use Rattle.layout_make.specs.MayDraw.{MayDraw}
 use Rattle.layout_make.proofs.Ready.{TracksLaw, may_ready}
 use Rattle.layout_make.proofs.WireLengths.{few_over}

@@ -8,7 +8,8 @@ use Rattle.rowed.specs.PlacedNets.{PlacedView, PlacedRow, placed_rows}
 use Rattle.rowed.specs.Channels.{Link, channel_links, move}
 use Rattle.rowed.specs.Short.{EachShort, AreShort}
 use Rattle.rowed.proofs.TestedNets.{is_placed, placed_from_test}
-use Rattle.rowed.specs.Extent.{widest, width_limit, height_limit}
+use Rattle.rowed.specs.Extent.{widest}
+use Rattle.rowed.specs.Limits.{width_limit, height_limit}
 use Rattle.cell_library.specs.Library.{LibraryView, pins_of, IsGiven}
 use Rattle.cell_library.specs.Laws.{IsLibrary}
 use Rattle.cell_library.specs.Reach.{reach_of, slot_width_of}

@@ -13,7 +13,8 @@ use Rattle.rowed.specs.declared.wire.Wire.{Wire}
 use Rattle.rowed.specs.declared.row_cell.RowCell.{RowCell}
 use Rattle.rowed.specs.RowNets.{row_at}
 use Rattle.rowed.specs.PlacedNets.{PlacedView, IsPlaced, placed_rows}
-use Rattle.rowed.specs.Extent.{widest, width_limit}
+use Rattle.rowed.specs.Extent.{widest}
+use Rattle.rowed.specs.Limits.{width_limit}
 use Rattle.sorting.proofs.SortingLaws.{by_key_from_sort}
 use Rattle.cell_library.specs.Library.{LibraryView}
 use Rattle.cell_library.specs.Laws.{IsLibrary}

@@ -23,7 +23,8 @@ use Rattle.rowed.specs.declared.wire.Wire.{Wire}
 use Rattle.sorting.specs.Numbers.{numbers, place_of}
 use Rattle.rowed.specs.Slots.{span_of, AreSeated, EachSeated}
 use Rattle.rowed.specs.PlacedNets.{PlacedView, paired, placed_rows}
-use Rattle.rowed.specs.Extent.{widest, width_limit}
+use Rattle.rowed.specs.Extent.{widest}
+use Rattle.rowed.specs.Limits.{width_limit}
 use Rattle.cell_library.specs.Kinds.{all_kinds}
 use Rattle.cell_library.specs.Library.{LibraryView, input_column_of, output_column_of}
 use Rattle.layout_make.specs.Sheet.{Tag, Lead, Bar, Over, RightOf, shape_of, centre, lower_edge, lead_first, lead_flank}

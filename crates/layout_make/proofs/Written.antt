@@ -12,7 +12,8 @@ use Rattle.circuit.specs.declared.cell_kind.CellKind.TheVariants.{Buffer}
 use Rattle.geom.specs.Writable.{IsWritableShape}
 use Rattle.rowed.specs.declared.wire.Wire.{Wire}
 use Rattle.rowed.specs.PlacedNets.{PlacedView, placed_rows}
-use Rattle.rowed.specs.Extent.{widest, width_limit}
+use Rattle.rowed.specs.Extent.{widest}
+use Rattle.rowed.specs.Limits.{width_limit}
 use Rattle.rowed.proofs.SpanLaws.{at_most_three}
 use Rattle.cell_library.specs.Library.{LibraryView, IsGiven, input_column_of, output_column_of}
 use Rattle.cell_library.specs.Reach.{slot_width_of}

@@ -4,7 +4,8 @@ use Rattle.std.specs.List.{AllByRecursion}
 use Rattle.rowed.specs.declared.row_cell.RowCell.{RowCell}
 use Rattle.rowed.specs.PlacedNets.{PlacedView, IsPlaced, placed_rows}
 use Rattle.rowed.specs.Short.{AreShort}
-use Rattle.rowed.specs.Extent.{widest, KeepsWidth, height_limit, width_limit}
+use Rattle.rowed.specs.Extent.{widest}
+use Rattle.rowed.specs.Limits.{KeepsWidth, height_limit, width_limit}
 use Rattle.cell_library.specs.Library.{LibraryView, IsGiven}
 use Rattle.cell_library.specs.Laws.{IsLibrary}
 use Rattle.cell_library.specs.Reach.{reach_of, slot_width_of}

@@ -1,6 +1,7 @@
 -- How many elements the top structure of a drawing has.
 use Rattle.std.specs.Prelude.{◌≡◌, ℕ, zero, suc, ◌+◌, ◌*◌, ◌<◌, length}
 use Rattle.rowed.specs.Counts.{cells_in, wires_in}
+use Rattle.rowed.specs.Limits.{element_limit}
 use Rattle.rowed.specs.PlacedNets.{PlacedView}
 use Rattle.layout_make.specs.declared.drawing.DrawRefusal.{DrawRefusal}
 use Rattle.layout_make.specs.declared.drawing.DrawRefusal.TheVariants.{TooManyElements, Memory}
@@ -14,10 +15,6 @@ lag_count (suc lag) = 2
 abbrev pub element_number : PlacedView → ℕ
 element_number p = cells_in p.net.rows + 2 * length p.net.rows + 5 * wires_in p.net.rows + p.net.inputs + p.net.outputs
     + lag_count p.lag
-
--- how many elements a top structure may have
-abbrev pub element_limit : ℕ
-element_limit = 2000000
 
 -- only a net with too many elements is refused for their number
 abbrev pub RefusesSize : PlacedView → DrawRefusal → Type 0

@@ -16,8 +16,9 @@ ghost use Rattle.layout_make.specs.Tags.{sheet, wire_tags};
 ghost use Rattle.layout_make.specs.Draw.{draw as drawn, boxes, used_kinds, cell_structure, last_row};
 ghost use Rattle.layout_make.specs.Draw.{row_elements, top_elements};
 ghost use Rattle.layout_make.specs.Code.Boxes.{bend_of, place_box, row_boxes, channel_boxes, lead_low};
-ghost use Rattle.layout_make.specs.Size.{element_number, element_limit, RefusesSize};
-ghost use Rattle.rowed.specs.Extent.{widest, KeepsWidth};
+ghost use Rattle.layout_make.specs.Size.{element_number, RefusesSize};
+ghost use Rattle.rowed.specs.Limits.{element_limit, KeepsWidth};
+ghost use Rattle.rowed.specs.Extent.{widest};
 ghost use Rattle.layout_make.specs.MayDraw.{MayDraw};
 
 use crate::marks::{PortLabels, Ports, push_labels};
@@ -31,11 +32,9 @@ use cell_library::Library;
 use channel_route::{RouteRefusal, Tracks, route, tracks_are_fewest};
 use circuit::CellKind;
 use geom::{Element, Layout, Structure};
+use rowed::limits::ELEMENT_LIMIT;
 use rowed::{Placed, Wire};
 use std::alloc::Global;
-
-/// The most elements of a top structure.
-const ELEMENT_LIMIT: u64 = 2_000_000;
 
 /// Why a placed net is not drawn.
 #[derive(Clone, Copy, Debug, PartialEq, Eq)]

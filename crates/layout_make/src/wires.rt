@@ -2,7 +2,8 @@
 ghost use Rattle.std.specs.Prelude.{◌≡◌, ℕ, ◌+◌, ◌<◌, ◌^◌, ◌++◌, [], length, slice_get, Some, IfOk, OnOk};
 ghost use Rattle.rowed.specs.declared.source.Source.{Source as From};
 ghost use Rattle.rowed.specs.PlacedNets.{placed_rows};
-ghost use Rattle.rowed.specs.Extent.{widest, KeepsWidth};
+ghost use Rattle.rowed.specs.Extent.{widest};
+ghost use Rattle.rowed.specs.Limits.{KeepsWidth};
 ghost use Rattle.cell_library.specs.Reach.{slot_width_of};
 ghost use Rattle.layout_make.specs.Spots.{spots_of, spots, AreGiven};
 ghost use Rattle.layout_make.specs.Channel.{wire_to, pin_wire, wires_into, from_of, channel as channel_of};

@@ -24,7 +24,8 @@ use Rattle.layout_make.specs.CellsAreDrawn.{CellsAreDrawn}
 use Rattle.layout_make.specs.Laws.{flat_shapes}
 use Rattle.layout_make.specs.MayDraw.{MayDraw}
 use Rattle.layout_make.specs.Sheet.{shape_of}
-use Rattle.layout_make.specs.Size.{element_number, element_limit}
+use Rattle.layout_make.specs.Size.{element_number}
+use Rattle.rowed.specs.Limits.{element_limit}
 use Rattle.layout_make.specs.Spots.{spots}
 use Rattle.layout_make.specs.Tags.{sheet, tags}
 use Rattle.layout_make.proofs.AllRules.{ports_of}

@@ -1,19 +1,15 @@
 -- What the bytes of a drawing are: a chip of the placed net, with as many rows, cells and wires, and within the sizes
 -- of chips that can be read back.
-use Rattle.std.specs.Prelude.{◌≡◌, ℕ, ◌+◌, ◌-◌, ◌<◌, ◌≤◌, length}
+use Rattle.std.specs.Prelude.{◌≡◌, ℕ, ◌-◌, ◌<◌, ◌≤◌, length}
 use Rattle.cell_library.specs.Library.{LibraryView, limits_of}
 use Rattle.gds_records.specs.Writing.{bytes_of}
-use Rattle.geom.specs.FlatForm.{flat_of}
+use Rattle.geom.specs.FlatForm.{flat_of, flat_count, shape_limit}
 use Rattle.rowed.specs.PlacedNets.{PlacedView}
 use Rattle.rowed.specs.RowNets.{IsAnswer}
 use Rattle.rowed.specs.Counts.{cells_in, wires_in}
 use Rattle.circuit_extracted.specs.Circuits.{CircuitView, KeepsFacts}
 use Rattle.layout_make.specs.Draw.{draw}
 use Rattle.layout_realises.specs.Realises.{Realises}
-
--- shapes and labels of the flat form of a drawing
-abbrev pub most_shapes : ℕ
-most_shapes = 8000000
 
 -- bytes of a drawing, which are fewer
 abbrev pub most_bytes : ℕ
@@ -28,5 +24,5 @@ pub record RealisesNet (p : PlacedView) (l : LibraryView) : Type 0 where
   pub rows : circuit.rows ≡ length p.net.rows
   pub cells : length circuit.cells ≡ cells_in p.net.rows
   pub wires : circuit.wires ≡ wires_in p.net.rows
-  pub small : length (flat_of (draw p l)).shapes + length (flat_of (draw p l)).labels ≤ most_shapes
+  pub small : flat_count (flat_of (draw p l)) ≤ shape_limit
   pub short : length (bytes_of (draw p l)) < most_bytes

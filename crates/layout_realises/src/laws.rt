@@ -7,7 +7,8 @@ ghost use Rattle.rowed.specs.PlacedNets.{PlacedView};
 ghost use Rattle.shape_extract.specs.Extraction.{is_wired};
 ghost use Rattle.layout_make.specs.Draw.{draw};
 ghost use Rattle.layout_make.specs.MayDraw.{MayDraw};
-ghost use Rattle.layout_make.specs.Size.{element_number, element_limit};
+ghost use Rattle.layout_make.specs.Size.{element_number};
+ghost use Rattle.rowed.specs.Limits.{element_limit};
 ghost use Rattle.layout_realises.specs.DrawnCircuit.{drawn_circuit, IsDrawnAs};
 ghost use Rattle.layout_realises.specs.RealisesNet.{RealisesNet};
 

@@ -3,7 +3,7 @@ use Rattle.std.specs.Prelude.{◌≡◌, ◌<◌, ◌≤◌, Bool, length}
 use Rattle.circuit.specs.PlainNets.{PlainView, IsPlainNet, IsAnswer as IsGatesAnswer}
 use Rattle.circuit.specs.SameAnswers.{SameAnswers}
 use Rattle.rowed.specs.RowNets.{RowView, IsRowNet, IsAnswer}
-use Rattle.rowed.specs.Extent.{cell_limit}
+use Rattle.rowed.specs.Limits.{cell_limit}
 use Rattle.level_balance.specs.Plan.{level_net}
 use Rattle.level_balance.specs.Counts.{cell_count, capped}
 use Rattle.level_balance.specs.declared.pass.LevelRefusal.{LevelRefusal}

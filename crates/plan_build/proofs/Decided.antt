@@ -5,7 +5,7 @@ use Rattle.std.proofs.lemmas.Bool.{cases_lt}
 use Rattle.blif_read.specs.Parts.{NetView}
 use Rattle.rowed.specs.PlacedNets.{placed_rows}
 use Rattle.level_balance.specs.Counts.{capped}
-use Rattle.rowed.specs.Extent.{KeepsWidth, PassesWidth, width_limit, height_limit}
+use Rattle.rowed.specs.Limits.{KeepsWidth, PassesWidth, width_limit, height_limit}
 use Rattle.repeater_rows.specs.Passes.{cells_past}
 use Rattle.cell_library.specs.Library.{LibraryView}
 use Rattle.cell_library.specs.Reach.{slot_width_of}

@@ -5,7 +5,7 @@ use Rattle.std.proofs.lemmas.Option.{none-some, same_Some}
 use Rattle.blif_read.specs.Parts.{NetView}
 use Rattle.cell_library.specs.Library.{LibraryView}
 use Rattle.plan_build.specs.Plans.{IsWithin, rows_height}
-use Rattle.rowed.specs.Extent.{height_limit}
+use Rattle.rowed.specs.Limits.{height_limit}
 use Rattle.plan_build.specs.Refusals.{Refuses}
 use Rattle.plan_build.specs.declared.refusal.PlanRefusal.{PlanRefusal}
 use Rattle.plan_build.specs.declared.refusal.PlanRefusal.TheVariants.{Slots, Rows, Cells, Memory}

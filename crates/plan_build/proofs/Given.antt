@@ -17,7 +17,8 @@ use Rattle.level_balance.specs.Counts.{cell_count, capped}
 use Rattle.level_balance.specs.Passes as level
 use Rattle.level_balance.specs.declared.pass.LevelRefusal.{LevelRefusal}
 use Rattle.level_balance.specs.declared.pass.LevelRefusal.TheVariants as levels
-use Rattle.rowed.specs.Extent.{widest_packed, width_limit, height_limit, KeepsWidth}
+use Rattle.rowed.specs.Extent.{widest_packed}
+use Rattle.rowed.specs.Limits.{width_limit, height_limit, KeepsWidth}
 use Rattle.row_place.specs.Places.{place}
 use Rattle.row_place.specs.Passes as places
 use Rattle.row_place.specs.declared.pass.PlaceRefusal.{PlaceRefusal}

@@ -8,7 +8,8 @@ use Rattle.maj_mapping.specs.Plan.{map_net}
 use Rattle.level_balance.specs.Plan.{level_net}
 use Rattle.level_balance.specs.Counts.{cell_count}
 use Rattle.row_place.specs.Places.{place}
-use Rattle.rowed.specs.Extent.{cell_limit, widest_packed, KeepsWidth, height_limit}
+use Rattle.rowed.specs.Extent.{widest_packed}
+use Rattle.rowed.specs.Limits.{cell_limit, KeepsWidth, height_limit}
 use Rattle.repeater_rows.specs.Repeaters.{repeated}
 use Rattle.repeater_rows.specs.Passes.{cells_past, height_of}
 use Rattle.cell_library.specs.Library.{LibraryView, pins_of}

@@ -8,7 +8,7 @@ use Rattle.rowed.specs.PlacedNets.{placed_rows}
 use Rattle.level_balance.specs.Counts.{capped}
 use Rattle.level_balance.specs.declared.pass.LevelRefusal.{LevelRefusal}
 use Rattle.level_balance.specs.declared.pass.LevelRefusal.TheVariants as levels
-use Rattle.rowed.specs.Extent.{cell_limit, KeepsWidth, PassesWidth, height_limit}
+use Rattle.rowed.specs.Limits.{cell_limit, KeepsWidth, PassesWidth, height_limit}
 use Rattle.row_place.specs.declared.pass.PlaceRefusal.{PlaceRefusal}
 use Rattle.row_place.specs.declared.pass.PlaceRefusal.TheVariants as places
 use Rattle.repeater_rows.specs.Passes.{cells_past}

@@ -9,7 +9,7 @@ use Rattle.plan_compact.specs.Chips.{AnswersAsOneOf}
 use Rattle.plan_compact.proofs.Chosen.{answers_as_all}
 use Rattle.rowed.specs.PlacedNets.{PlacedRow, PlacedView, IsPlaced, placed_rows}
 use Rattle.rowed.specs.Counts.{cells_in}
-use Rattle.rowed.specs.Extent.{cell_limit}
+use Rattle.rowed.specs.Limits.{cell_limit}
 use Rattle.rowed.specs.declared.row_cell.RowCell.{RowCell}
 use Rattle.rowed.proofs.RowsAboveLaws.{placed_again}
 use Rattle.repeater_rows.specs.Passes.{cells_past}

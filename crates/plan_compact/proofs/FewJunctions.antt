@@ -5,7 +5,7 @@ use Rattle.circuit.specs.declared.cell_kind.CellKind.TheVariants.{Buffer}
 use Rattle.rowed.specs.declared.row_cell.RowCell.{RowCell}
 use Rattle.rowed.specs.PlacedNets.{PlacedView}
 use Rattle.rowed.specs.Counts.{cells_in}
-use Rattle.rowed.specs.Extent.{cell_limit}
+use Rattle.rowed.specs.Limits.{cell_limit}
 use Rattle.plan_compact.specs.Junctions.{kind_junctions, row_junctions, junctions_in}
 use Rattle.plan_compact.specs.Compact.{IsNoLarger}
 

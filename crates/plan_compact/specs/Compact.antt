@@ -4,7 +4,8 @@ use Rattle.blif_read.specs.Parts.{NetView}
 use Rattle.rowed.specs.Counts.{cells_in}
 use Rattle.rowed.specs.PlacedNets.{PlacedView}
 use Rattle.cell_library.specs.Library.{LibraryView}
-use Rattle.layout_make.specs.Size.{element_number, element_limit}
+use Rattle.layout_make.specs.Size.{element_number}
+use Rattle.rowed.specs.Limits.{element_limit}
 use Rattle.plan_build.specs.Plans.{IsWithin, chip_of}
 use Rattle.plan_compact.specs.Junctions.{junctions_in}
 

@@ -4,7 +4,7 @@ ghost use Rattle.circuit.specs.SameAnswers.{SameAnswers};
 ghost use Rattle.rowed.specs.RowNets as rows;
 ghost use Rattle.rowed.specs.PlacedNets.{IsPlaced};
 ghost use Rattle.rowed.specs.Counts.{cells_in};
-ghost use Rattle.rowed.specs.Extent.{cell_limit};
+ghost use Rattle.rowed.specs.Limits.{cell_limit};
 ghost use Rattle.mig.specs.Graphs as graphs;
 ghost use Rattle.plan_compact.specs.Chips.{AnswersAsOneOf};
 
@@ -14,10 +14,8 @@ use chip_search::Effort;
 use mig::Graph;
 use placement_check::{Draft, check};
 use rowed::Placed;
+use rowed::limits::CELL_LIMIT;
 use std::alloc::Global;
-
-/// A chip has at most so many cells.
-const MOST_CELLS: u64 = 2_000_000;
 
 /// Whether at most 2,000,000 cells stand in the rows.
 fn has_few_cells(chip: &Placed) -> bool
@@ -26,7 +24,7 @@ fn has_few_cells(chip: &Placed) -> bool
     let mut count = 0;
     for row in chip.net.rows.as_slice() {
         let cells = row.len() as u64;
-        if cells > MOST_CELLS - count {
+        if cells > CELL_LIMIT - count {
             return false;
         }
         count += cells;

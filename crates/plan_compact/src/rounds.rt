@@ -49,13 +49,15 @@ fn resubstituted(alloc: Global, graph: &Graph, shake: Option<u32>) -> Result<Gra
     }
 }
 
-/// Whose cuts of four leaves are taken.
+/// Whose cuts of four leaves are taken, and by which recipes.
 #[derive(Clone, Copy)]
 enum Cuts {
     /// Those of the graph that a pass is given.
     Given,
     /// Those of the graph that grows.
     InPlace,
+    /// The same, by recipes of ands alone.
+    Ands,
 }
 
 /// The pass by cuts of four leaves, whose cuts it takes, and whether nodes are joined in another order after it.
@@ -79,6 +81,7 @@ fn rewritten(
         (Cuts::Given, Some(number)) => pass.pass.shaken(alloc, graph, number),
         (Cuts::Given, None) => pass.pass.run(alloc, graph),
         (Cuts::InPlace, shake) => pass.pass.in_place(alloc, graph, shake),
+        (Cuts::Ands, shake) => pass.pass.by_ands(alloc, graph, shake),
     };
     match made {
         Ok(made) => Ok(made),
@@ -214,39 +217,9 @@ fn turns(nodes: usize) -> u32 {
     if nodes <= MOST_IN_TURNS { 3 } else { 1 }
 }
 
-/// The graph by recipes of ands; with a number, it is shaken.
-fn by_ands(
-    alloc: Global,
-    pass: &Rewriting,
-    graph: &Graph,
-    shake: Option<u32>,
-) -> Result<Graph, Memory>
-    ensures { IfOk result (λ made. IsRebuilt graph.now made) }
-{
-    match pass.pass.by_ands(alloc, graph, shake) {
-        Ok(made) => Ok(made),
-        Err(refusal) => Err(no_memory(refusal)),
-    }
-}
-
-/// A graph of a netlist by recipes of ands, which is one too.
+/// The graph by one pass, with nodes that are joined in another order, where that is asked for.
 #[tactic(auto, using(mig_from_netlist::proofs::Signals::graph_then))]
-fn rewritten_by_ands(
-    alloc: Global,
-    _net: &Netlist,
-    pass: &Rewriting,
-    graph: &Graph,
-    shake: Option<u32>,
-) -> Result<Graph, Memory>
-    requires { IsGraphOf _net.now graph.now }
-    ensures { IfOk result (λ made. IsGraphOf _net.now made) }
-{
-    let made = by_ands(alloc, pass, graph, shake)?;
-    Ok(made)
-}
-
-/// The same, with nodes that are joined in another order, where that is asked for.
-fn of_fewer_ands(
+fn pass_and_share(
     alloc: Global,
     net: &Netlist,
     pass: &Rewriting,
@@ -256,7 +229,7 @@ fn of_fewer_ands(
     requires { IsGraphOf net.now graph.now }
     ensures { IfOk result (λ made. IsGraphOf net.now made) }
 {
-    let made = rewritten_by_ands(alloc, net, pass, graph, shake)?;
+    let made = rewritten(alloc, pass, graph, shake)?;
     or_shared(alloc, net, pass, made)
 }
 
@@ -270,11 +243,16 @@ fn fewer_ands(
     requires { IsGraphOf net.now graph.now }
     ensures { IfOk result (λ made. IsGraphOf net.now made) }
 {
-    let one = of_fewer_ands(alloc, net, pass, graph, None)?;
-    let two = of_fewer_ands(alloc, net, pass, &one, Some(1))?;
-    let three = of_fewer_ands(alloc, net, pass, &two, None)?;
-    let four = of_fewer_ands(alloc, net, pass, &three, Some(2))?;
-    of_fewer_ands(alloc, net, pass, &four, None)
+    let ands = Rewriting {
+        pass: pass.pass,
+        cuts: Cuts::Ands,
+        shares: pass.shares,
+    };
+    let one = pass_and_share(alloc, net, &ands, graph, None)?;
+    let two = pass_and_share(alloc, net, &ands, &one, Some(1))?;
+    let three = pass_and_share(alloc, net, &ands, &two, None)?;
+    let four = pass_and_share(alloc, net, &ands, &three, Some(2))?;
+    pass_and_share(alloc, net, &ands, &four, None)
 }
 
 /// Two rounds.

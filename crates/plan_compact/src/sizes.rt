@@ -1,7 +1,7 @@
 // How large chips are beside one another.
 ghost use Rattle.std.specs.Prelude.{◌≡◌, ◌≤◌, ◌<◌, ◌^◌, IsTrue};
 ghost use Rattle.rowed.specs.Counts.{cells_in};
-ghost use Rattle.rowed.specs.Extent.{cell_limit};
+ghost use Rattle.rowed.specs.Limits.{cell_limit};
 ghost use Rattle.plan_compact.specs.Junctions.{kind_junctions, row_junctions, junctions_in};
 ghost use Rattle.plan_compact.specs.Compact.{IsNoLarger};
 

@@ -11,7 +11,8 @@ use Rattle.rowed.specs.RowNets.{RowView, IsRowNet}
 use Rattle.rowed.specs.Slots.{span_of}
 use Rattle.rowed.specs.PlacedNets.{PlacedRow, PlacedView, IsPlaced, paired, placed_rows}
 use Rattle.rowed.specs.Short.{AreShort}
-use Rattle.rowed.specs.Extent.{packed_span, widest, widest_packed, KeepsWidth}
+use Rattle.rowed.specs.Extent.{packed_span, widest, widest_packed}
+use Rattle.rowed.specs.Limits.{KeepsWidth}
 use Rattle.rowed.proofs.RowsAboveLaws.{placed_rows_of}
 use Rattle.row_place.specs.Places.{packed}
 use Rattle.plan_draw.specs.Packs.{pack}

@@ -14,7 +14,8 @@ use Rattle.cell_rows.proofs.Answered.{same_answers}
 use Rattle.cell_library.specs.Library.{LibraryView}
 use Rattle.cell_library.specs.Reach.{reach_of}
 use Rattle.layout_make.specs.MayDraw.{MayDraw}
-use Rattle.layout_make.specs.Size.{element_number, element_limit}
+use Rattle.layout_make.specs.Size.{element_number}
+use Rattle.rowed.specs.Limits.{element_limit}
 use Rattle.plan_build.specs.Laws.{AnswersAs}
 use Rattle.plan_build.proofs.SameThen.{same_then}
 use Rattle.plan_limits.specs.Drawable.{IsDrawable}

@@ -7,8 +7,9 @@ use Rattle.circuit.specs.CellKinds.{slots_of}
 use Rattle.rowed.specs.declared.row_cell.RowCell.{RowCell}
 use Rattle.rowed.specs.RowNets.{RowView, IsRowNet}
 use Rattle.rowed.specs.PlacedNets.{IsPlaced}
-use Rattle.rowed.specs.Slots.{AreSeated, EachSeated, slot_limit}
-use Rattle.rowed.specs.Extent.{packed_span, widest_packed, width_limit}
+use Rattle.rowed.specs.Slots.{AreSeated, EachSeated}
+use Rattle.rowed.specs.Limits.{slot_limit, width_limit}
+use Rattle.rowed.specs.Extent.{packed_span, widest_packed}
 use Rattle.row_place.specs.Places.{packed}
 use Rattle.row_place.specs.Passes.{IsTooWide}
 use Rattle.row_place.specs.declared.pass.PlaceRefusal.{PlaceRefusal}

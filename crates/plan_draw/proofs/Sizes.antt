@@ -6,11 +6,12 @@ use Rattle.std.proofs.lemmas.Bool.{cases_lt}
 use Rattle.std.proofs.lemmas.Option.{none-some, same_Some}
 use Rattle.rowed.specs.RowNets.{RowView}
 use Rattle.rowed.specs.PlacedNets.{placed_rows}
-use Rattle.rowed.specs.Extent.{widest_packed, KeepsWidth, PassesWidth, width_limit, height_limit}
+use Rattle.rowed.specs.Extent.{widest_packed}
+use Rattle.rowed.specs.Limits.{KeepsWidth, PassesWidth, width_limit, height_limit, element_limit}
 use Rattle.repeater_rows.specs.Passes.{cells_past}
 use Rattle.cell_library.specs.Library.{LibraryView}
 use Rattle.cell_library.specs.Reach.{slot_width_of}
-use Rattle.layout_make.specs.Size.{element_number, element_limit}
+use Rattle.layout_make.specs.Size.{element_number}
 use Rattle.plan_build.specs.Plans.{rows_height}
 use Rattle.plan_draw.specs.CellPlans.{chip_of_rows, KeepsSize}
 use Rattle.plan_draw.specs.Refusals.{PassesSize}

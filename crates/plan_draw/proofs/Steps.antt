@@ -4,14 +4,14 @@ use Rattle.std.specs.Prelude.{◌⊎◌}
 use Rattle.blif_read.specs.Parts.{NetView}
 use Rattle.rowed.specs.PlacedNets.{PlacedView, placed_rows}
 use Rattle.rowed.specs.Counts.{cells_in}
-use Rattle.rowed.specs.Extent.{cell_limit, height_limit}
+use Rattle.rowed.specs.Limits.{cell_limit, height_limit, element_limit}
 use Rattle.repeater_rows.specs.Repeaters.{repeated, repeated_rows}
 use Rattle.repeater_rows.specs.Passes.{AreRepeated, IsTooLarge, cells_past}
 use Rattle.repeater_rows.specs.declared.pass.RepeatRefusal.{RepeatRefusal}
 use Rattle.repeater_rows.specs.declared.pass.RepeatRefusal.TheVariants as repeats
 use Rattle.cell_library.specs.Library.{LibraryView}
 use Rattle.cell_library.specs.Reach.{reach_of}
-use Rattle.layout_make.specs.Size.{element_number, element_limit}
+use Rattle.layout_make.specs.Size.{element_number}
 use Rattle.plan_build.specs.Plans.{channel_of, rows_height}
 use Rattle.plan_draw.specs.CellPlans.{chip_of_rows, IsCellChip}
 use Rattle.plan_draw.specs.Refusals.{of_repeats, RefusesCells}

@@ -3,14 +3,15 @@ use Rattle.std.specs.Prelude.{◌≡◌, ℕ, ◌≤◌, List, length, None}
 use Rattle.blif_read.specs.Parts.{NetView}
 use Rattle.rowed.specs.RowNets.{RowView}
 use Rattle.rowed.specs.PlacedNets.{PlacedView, placed_rows}
-use Rattle.rowed.specs.Extent.{widest_packed, KeepsWidth, height_limit}
+use Rattle.rowed.specs.Extent.{widest_packed}
+use Rattle.rowed.specs.Limits.{KeepsWidth, height_limit, element_limit}
 use Rattle.cell_rows.specs.Laws.{AreRowsOf}
 use Rattle.plan_draw.specs.Packs.{pack}
 use Rattle.repeater_rows.specs.Repeaters.{repeated}
 use Rattle.repeater_rows.specs.Passes.{cells_past}
 use Rattle.cell_library.specs.Library.{LibraryView}
 use Rattle.cell_library.specs.Reach.{reach_of, slot_width_of}
-use Rattle.layout_make.specs.Size.{element_number, element_limit}
+use Rattle.layout_make.specs.Size.{element_number}
 use Rattle.plan_build.specs.Plans.{three_of, rows_height}
 
 -- these are the rows of a netlist of cells, by the levels of its cells

@@ -11,7 +11,8 @@ use Rattle.plan_draw.specs.Packs.{pack}
 use Rattle.repeater_rows.specs.Repeaters.{repeated}
 use Rattle.cell_library.specs.Library.{LibraryView}
 use Rattle.cell_library.specs.Reach.{reach_of}
-use Rattle.layout_make.specs.Size.{element_number, element_limit}
+use Rattle.layout_make.specs.Size.{element_number}
+use Rattle.rowed.specs.Limits.{element_limit}
 use Rattle.plan_draw.specs.CellPlans.{AreCellRows, chip_of_rows, KeepsSize}
 
 -- the rows stand packed, or at slots that a search has found, or in a wider net: with buffers in added rows, so that

@@ -4,7 +4,8 @@ use Rattle.std.specs.Prelude.{◌≡◌, ℕ, map, slice_index_or, []}
 use Rattle.circuit.specs.SameAnswers.{SameAnswers}
 use Rattle.rowed.specs.RowNets.{RowView, IsAnswer}
 use Rattle.rowed.specs.PlacedNets.{PlacedView, IsPlaced}
-use Rattle.rowed.specs.Extent.{widest_packed, KeepsWidth}
+use Rattle.rowed.specs.Extent.{widest_packed}
+use Rattle.rowed.specs.Limits.{KeepsWidth}
 use Rattle.row_place.specs.Places.{packed}
 
 -- the net with its rows packed

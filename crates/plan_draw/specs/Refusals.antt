@@ -3,7 +3,8 @@ use Rattle.std.specs.Prelude.{◌≡◌, ◌<◌, ◌≤◌, length, Some, None}
 use Rattle.blif_read.specs.Parts.{NetView}
 use Rattle.rowed.specs.RowNets.{RowView}
 use Rattle.rowed.specs.PlacedNets.{placed_rows}
-use Rattle.rowed.specs.Extent.{widest_packed, KeepsWidth, PassesWidth, height_limit}
+use Rattle.rowed.specs.Extent.{widest_packed}
+use Rattle.rowed.specs.Limits.{KeepsWidth, PassesWidth, height_limit, element_limit}
 use Rattle.row_place.specs.declared.pass.PlaceRefusal.{PlaceRefusal}
 use Rattle.row_place.specs.declared.pass.PlaceRefusal.TheVariants as places
 use Rattle.repeater_rows.specs.Passes.{cells_past}
@@ -14,7 +15,7 @@ use Rattle.cell_netlist.specs.declared.fault.CellsRefusal.{CellsRefusal}
 use Rattle.cell_netlist.specs.declared.fault.CellsRefusal.TheVariants as cells
 use Rattle.cell_library.specs.Library.{LibraryView}
 use Rattle.cell_library.specs.Reach.{slot_width_of}
-use Rattle.layout_make.specs.Size.{element_number, element_limit}
+use Rattle.layout_make.specs.Size.{element_number}
 use Rattle.plan_build.specs.Plans.{three_of, rows_height}
 use Rattle.plan_draw.specs.CellPlans.{AreCellRows, chip_of_rows}
 use Rattle.plan_draw.specs.declared.refusal.CellPlanRefusal.{CellPlanRefusal}

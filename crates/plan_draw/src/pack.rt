@@ -2,7 +2,7 @@
 ghost use Rattle.std.specs.Prelude.{◌≡◌, ◌≤◌, ◌⊎◌, map, IfOk, IfErr};
 ghost use Rattle.std.specs.List.{AllByRecursion};
 ghost use Rattle.rowed.specs.Extent.{packed_span};
-ghost use Rattle.rowed.specs.Slots.{slot_limit};
+ghost use Rattle.rowed.specs.Limits.{slot_limit};
 ghost use Rattle.row_place.specs.Passes.{IsTooWide};
 ghost use Rattle.row_place.specs.Places.{packed};
 ghost use Rattle.row_place.specs.declared.pass.PlaceRefusal.TheVariants.{Memory as NoMemory};

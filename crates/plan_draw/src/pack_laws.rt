@@ -4,7 +4,7 @@ ghost use Rattle.circuit.specs.CellKinds.{slots_of};
 ghost use Rattle.rowed.specs.declared.row_cell.RowCell.{RowCell};
 ghost use Rattle.rowed.specs.RowNets.{RowView, row_at, cell_at, IsRowNet};
 ghost use Rattle.rowed.specs.PlacedNets.{IsPlaced};
-ghost use Rattle.rowed.specs.Slots.{slot_limit};
+ghost use Rattle.rowed.specs.Limits.{slot_limit};
 ghost use Rattle.rowed.specs.Extent.{packed_span, widest_packed};
 ghost use Rattle.row_place.specs.Examples as examples;
 ghost use Rattle.row_place.specs.Passes.{IsTooWide};

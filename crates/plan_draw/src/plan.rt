@@ -19,11 +19,9 @@ use circuit::Pass;
 use layout_make::element_number;
 use plan_build::repeating;
 use repeater_rows::repeaters_count;
+use rowed::limits::ELEMENT_LIMIT;
 use rowed::{Placed, RowNet};
 use std::alloc::Global;
-
-/// How many elements the top structure of a layout may have.
-const ELEMENT_LIMIT: u64 = 2_000_000;
 
 /// The rows of a netlist of cells, by the levels of its cells, or the first fault of one that is none of cells.
 pub(crate) fn rows_of(

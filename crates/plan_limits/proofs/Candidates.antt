@@ -6,7 +6,7 @@ use Rattle.blif_read.specs.Netlist.{IsNetlist}
 use Rattle.rowed.specs.PlacedNets.{PlacedView, IsPlaced, placed_rows}
 use Rattle.rowed.specs.Short.{AreShort}
 use Rattle.rowed.specs.Counts.{cells_in}
-use Rattle.rowed.specs.Extent.{cell_limit}
+use Rattle.rowed.specs.Limits.{cell_limit}
 use Rattle.repeater_rows.specs.Repeaters.{repeated}
 use Rattle.repeater_rows.specs.Passes.{AreRepeated}
 use Rattle.repeater_rows.proofs.KeptLaws.{no_lag}

@@ -1,10 +1,10 @@
 -- A chip with its odd rows delayed may be drawn, and has two elements more at most.
 use Rattle.std.proofs.Common.{ℕ, zero, suc, ◌+◌, ◌≤◌, ◌<◌, ◌^◌, inl, inr, refl, arith}
-use Rattle.rowed.specs.Extent.{width_limit}
+use Rattle.rowed.specs.Limits.{width_limit, element_limit}
 use Rattle.rowed.specs.PlacedNets.{PlacedView, lagged}
 use Rattle.cell_library.specs.Library.{LibraryView}
 use Rattle.layout_make.specs.MayDraw.{MayDraw}
-use Rattle.layout_make.specs.Size.{element_number, element_limit, lag_count}
+use Rattle.layout_make.specs.Size.{element_number, lag_count}
 use Rattle.layout_make.proofs.SizeBounds.{number_small, lag_few}
 use Rattle.plan_limits.specs.Delayed.{IsDelayed}
 

@@ -5,12 +5,13 @@ use Rattle.blif_read.specs.Parts.{NetView}
 use Rattle.blif_read.specs.Netlist.{IsNetlist}
 use Rattle.rowed.specs.PlacedNets.{PlacedView, placed_rows}
 use Rattle.rowed.specs.Counts.{cells_in}
-use Rattle.rowed.specs.Extent.{widest, KeepsWidth}
+use Rattle.rowed.specs.Extent.{widest}
+use Rattle.rowed.specs.Limits.{KeepsWidth, element_limit}
 use Rattle.cell_library.specs.Library.{LibraryView}
 use Rattle.cell_library.specs.Laws.{IsLibrary}
 use Rattle.cell_library.specs.Reach.{slot_width_of}
 use Rattle.layout_make.specs.MayDraw.{GivesKinds}
-use Rattle.layout_make.specs.Size.{element_number, element_limit}
+use Rattle.layout_make.specs.Size.{element_number}
 use Rattle.layout_make.proofs.SizeBounds.{wires_most, lag_few}
 use Rattle.plan_limits.specs.Code.Limits.{IsShortened, KeepsLimits}
 

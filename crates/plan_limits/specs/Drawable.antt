@@ -6,7 +6,8 @@ use Rattle.repeater_rows.specs.Repeaters.{repeated}
 use Rattle.cell_library.specs.Library.{LibraryView}
 use Rattle.cell_library.specs.Reach.{reach_of}
 use Rattle.layout_make.specs.MayDraw.{MayDraw}
-use Rattle.layout_make.specs.Size.{element_number, element_limit}
+use Rattle.layout_make.specs.Size.{element_number}
+use Rattle.rowed.specs.Limits.{element_limit}
 use Rattle.plan_build.specs.Laws.{AnswersAs}
 
 -- this is a placed net with the rows of repeaters that the library's reach calls for; it may be drawn, has few enough

@@ -1,16 +1,14 @@
 // How far the odd rows of a chip are to lag, so that it bears a high clock rate.
 ghost use Rattle.std.specs.Prelude.{◌≤◌};
-ghost use Rattle.rowed.specs.Extent.{width_limit};
+ghost use Rattle.rowed.specs.Limits.{width_limit};
 ghost use Rattle.layout_make.specs.MayDraw.{MayDraw};
 ghost use Rattle.plan_limits.specs.Delayed.{IsDelayed};
 
-use crate::limits::{ELEMENT_LIMIT, slot_width};
+use crate::limits::slot_width;
 use cell_library::Library;
 use layout_make::element_number;
+use rowed::limits::{ELEMENT_LIMIT, WIDTH_LIMIT};
 use rowed::{Placed, RowCell, Source};
-
-/// How wide the bar may be, in nanometres: as wide as a row.
-const WIDTH_LIMIT: u64 = 2_000_000_000;
 
 /// The slots of a cell of the widest kind.
 const WIDEST_CELL: u64 = 3;

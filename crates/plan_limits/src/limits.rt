@@ -10,10 +10,8 @@ ghost use Rattle.plan_limits.specs.Code.Limits.{IsShortened, KeepsLimits};
 use blif_read::Netlist;
 use cell_library::Library;
 use layout_make::element_number;
+use rowed::limits::ELEMENT_LIMIT;
 use rowed::{Placed, RowCell, is_too_wide};
-
-/// How many elements the top structure of a layout may have.
-pub(crate) const ELEMENT_LIMIT: u64 = 2_000_000;
 
 /// Whether the library gives the kinds of the cells of a row.
 fn gives_row(library: &Library, cells: &[RowCell]) -> bool

@@ -6,7 +6,7 @@ use Rattle.rowed.specs.RowNets.{IsAnswer}
 use Rattle.std.proofs.lemmas.List.{length-map}
 use Rattle.rowed.specs.declared.row_cell.RowCell.{RowCell}
 use Rattle.rowed.specs.PlacedNets.{PlacedRow, PlacedView, IsPlaced, placed_rows}
-use Rattle.rowed.specs.Extent.{height_limit}
+use Rattle.rowed.specs.Limits.{height_limit}
 use Rattle.repeater_rows.specs.Repeaters.{repeated, repeated_rows}
 use Rattle.rowed.proofs.RowsAboveLaws.{placed_rows_of}
 use Rattle.repeater_rows.proofs.KeptLaws.{repeaters_keep}

@@ -19,8 +19,8 @@ mod LookSteps
 mod Opened
 mod ChannelSteps
 mod RoundsLeft
-mod Counting
 mod LimitLaws
 mod Neighbours
 mod Making
+mod Counted
 mod Given

@@ -7,20 +7,18 @@ use Rattle.rowed.specs.declared.row_cell.RowCell.{RowCell}
 use Rattle.rowed.specs.PlacedNets.{PlacedRow, placed_rows, PlacedView}
 use Rattle.rowed.specs.Counts.{cells_in}
 use Rattle.repeater_rows.specs.Repeaters.{repeated, repeated_rows}
-use Rattle.rowed.specs.Extent.{cell_limit}
+use Rattle.rowed.specs.Limits.{cell_limit}
 use Rattle.repeater_rows.specs.Passes.{AreRepeated, IsTooLarge, cells_past, IsFirstPast}
-use Rattle.repeater_rows.specs.Code.Counts.{ArePast, IsPastLimit}
-use Rattle.repeater_rows.specs.declared.pass.RepeatRefusal.{RepeatRefusal}
-use Rattle.repeater_rows.specs.declared.pass.RepeatRefusal.TheVariants.{TooManyCells, TooTall, Memory}
+use Rattle.repeater_rows.specs.declared.pass.RepeatRefusal.TheVariants.{TooManyCells}
 use Rattle.rowed.proofs.RowsAboveLaws.{cells_of, placed_again}
 
 -- a row within the limit, and one past it
-on : (before : ℕ) (row : PlacedRow) (rows : List PlacedRow) → before + length row.cells ≤ cell_limit
+pub on : (before : ℕ) (row : PlacedRow) (rows : List PlacedRow) → before + length row.cells ≤ cell_limit
     → cells_past before (row ∷ rows) ≡ cells_past (before + length row.cells) rows
 on before row rows le = let fits : nat_le (before + length row.cells) cell_limit ≡ true =
     le-leb (before + length row.cells) cell_limit le in rw fits refl
 
-off : (before : ℕ) (row : PlacedRow) (rows : List PlacedRow) → cell_limit < before + length row.cells
+pub off : (before : ℕ) (row : PlacedRow) (rows : List PlacedRow) → cell_limit < before + length row.cells
     → cells_past before (row ∷ rows) ≡ Some (before + length row.cells)
 off before row rows lt = let past : nat_le (before + length row.cells) cell_limit ≡ false =
     lt-leb (before + length row.cells) cell_limit lt in rw past refl
@@ -137,10 +135,3 @@ pub refused_past : (p : PlacedView) (reach height channel cells : ℕ)
     → IsTooLarge p reach height channel (TooManyCells cells) → IsFirstPast (repeated p reach).net.rows cells
 unfolding repeated
 refused_past p reach height channel cells past = past_first (repeated_rows reach (placed_rows p)) cells past
-
--- what the code refuses is what the pass may refuse
-pub refused : (reach : ℕ) (p : PlacedView) (refusal : RepeatRefusal)
-    → ArePast (cells_of (repeated_rows reach (placed_rows p))) refusal → IsPastLimit reach (placed_rows p) refusal
-refused reach p (TooManyCells cells) past = first_past (repeated_rows reach (placed_rows p)) cells past
-refused reach p (TooTall rows) past = past
-refused reach p Memory past = tt

@@ -1,5 +1,5 @@
 -- The rows of the plan, made one after another.
-use Rattle.std.proofs.Common.{◌≡◌, ℕ, suc, ◌+◌, ◌-◌, ◌*◌, ◌<◌, ◌≤◌, ◌==◌, Bool, true, false, not, ◌||◌, List, [], ◌∷◌}
+use Rattle.std.proofs.Common.{◌≡◌, ℕ, suc, ◌+◌, ◌-◌, ◌<◌, ◌≤◌, ◌==◌, Bool, true, false, not, ◌||◌, List, [], ◌∷◌}
 use Rattle.std.proofs.Common.{◌++◌, length, map, drop, Option, Some, None, refl, sym, ap, ◌∙◌, subst, append_assoc}
 use Rattle.std.proofs.Common.{arith, Vec}
 use Rattle.std.specs.List.{All}
@@ -7,32 +7,25 @@ use Rattle.std.proofs.lemmas.Bool.{eq-eqb}
 use Rattle.std.proofs.lemmas.List.{append-nil, length-map, map-append, drop_all}
 use Rattle.std.proofs.lemmas.List.Elements.{All-from_recursion}
 use Rattle.std.specs.Global.{Global}
-use Rattle.circuit.specs.Gates.{valuation}
 use Rattle.rowed.specs.declared.source.Source.{Source}
 use Rattle.rowed.specs.declared.row_cell.RowCell.{RowCell}
-use Rattle.rowed.specs.Slots.{slot_limit}
+use Rattle.rowed.specs.Limits.{slot_limit}
 use Rattle.rowed.specs.PlacedNets.{PlacedRow, PlacedView, IsPlaced, placed_rows, row_of}
 use Rattle.rowed.specs.Channels.{Link, pin_link, links, channel_links}
 use Rattle.repeater_rows.specs.Destinations.{is_end}
 use Rattle.repeater_rows.specs.declared.channel.Channel.{Channel}
-use Rattle.repeater_rows.specs.Rounds.{is_far, rounds, all_rounds}
+use Rattle.repeater_rows.specs.Rounds.{is_far, all_rounds}
 use Rattle.repeater_rows.specs.Repeaters.{buffer_from, carried, carrier_slots, added, source_to, source_above}
 use Rattle.repeater_rows.specs.Repeaters.{added_rows, last_source, fed_from, cell_from, cells_from, channel_rounds}
 use Rattle.repeater_rows.specs.Repeaters.{channel_rows, rows_above, repeated_rows}
 use Rattle.rowed.proofs.RowsAboveLaws.{cells_of, slots_in}
 use Rattle.rowed.proofs.NeighbourLaws.{seated_at, slots_below}
-use Rattle.rowed.specs.Counts.{cells_in}
 use Rattle.repeater_rows.specs.Code.Opening.{AreDestinations, IsOpened}
-use Rattle.repeater_rows.specs.Code.Counts.{rounds_left, AreCounted, ArePast, IsPastLimit}
-use Rattle.repeater_rows.specs.Passes.{cells_past}
-use Rattle.repeater_rows.specs.declared.pass.RepeatRefusal.{RepeatRefusal}
-use Rattle.repeater_rows.proofs.Counting.{IsTooMany, past_more, past_also}
-use Rattle.repeater_rows.proofs.LimitLaws.{rows_fit, refused}
-use Rattle.repeater_rows.proofs.WindowOrder.{carriers_count}
-use Rattle.repeater_rows.specs.Code.Works.{Listed, listed, is_wired, fed_by, Work, rounds_of, rows_of, last_of, AllMade}
+use Rattle.repeater_rows.specs.Code.Counts.{rounds_left}
+use Rattle.repeater_rows.specs.Code.Works.{Listed, is_wired, fed_by, Work, rounds_of, rows_of, last_of, AllMade}
 use Rattle.repeater_rows.proofs.Makes.{added_to, slots_of, Stage, rounds_ahead, rows_ahead, AreMade, IsRound, IsNext}
 use Rattle.repeater_rows.proofs.Makes.{rows_left, AreMadeTo}
-use Rattle.repeater_rows.proofs.RoundsLeft.{rounds_stop, left_next}
+use Rattle.repeater_rows.proofs.RoundsLeft.{first_ahead, turned_known, turned_kept, left_next, none_near}
 use Rattle.rowed.proofs.NumberedRows.{rows_from, placed_long}
 
 -- the sources of all wires are the same
@@ -66,125 +59,81 @@ same_last wired f g same [] d w = same d w
 same_last wired f g same (to ∷ tos) d w = refl
 
 -- before the first round
-pub made_first : (w : Work)
+pub made_first : (w : Work) (below : Listed)
     → AreDestinations (is_wired w.channel) (slots_of w) w.channel.to.items w.channel.carriers.items
-    → AreMade w (record { done = 0; first = true; channel = w.channel; made = w.below })
-made_first w known =
-    let to = w.channel.to.items in
-    let n : length to * length to - 0 ≡ length to * length to = omega arith in
-    let all = ap (λ (k : ℕ). rounds w.reach (is_wired w.channel) k true to) n in
+    → AreMade w below (record { done = 0; first = true; channel = w.channel }) below
+made_first w below known =
     let rows = λ (tos : List (List ℕ)). added_rows (is_wired w.channel) (fed_by w.channel) tos in
     record {
-      known = known;
-      wires = refl;
+      stage = record { known = known; wires = refl };
       long = refl;
-      rows = ap (λ (tos : List (List ℕ)). w.below.cells.items ++ cells_of (rows tos)) all;
-      seats = ap (λ (tos : List (List ℕ)). w.below.slots.items ++ slots_in (rows tos)) all;
-      sources = λ d e. ap (λ (tos : List (List ℕ)). last_source (is_wired w.channel) (fed_by w.channel) tos d) all;
+      rows = ap (λ (tos : List (List ℕ)). below.cells ++ cells_of (rows tos)) (first_ahead w);
+      seats = ap (λ (tos : List (List ℕ)). below.seats ++ slots_in (rows tos)) (first_ahead w);
+      sources = λ d e. ap (λ (tos : List (List ℕ)). last_source (is_wired w.channel) (fed_by w.channel) tos d)
+          (first_ahead w);
     }
 
-module _ (w : Work) (now : Stage) (made : AreMade w now) where
+module _ (w : Work) (below : Listed) (now : Stage) (made : Listed) (are : AreMade w below now made) where
   -- after the last
-  made_all : rounds_ahead w now ≡ [] → AllMade w (fed_by now.channel) (listed now.made)
+  pub made_all : rounds_ahead w now ≡ [] → AllMade w below (fed_by now.channel) made
   made_all none =
       let rows = λ (tos : List (List ℕ)). added_rows (is_wired now.channel) (fed_by now.channel) tos in
       record {
-        rows = sym (append-nil now.made.cells.items)
-            ∙ ap (λ (tos : List (List ℕ)). now.made.cells.items ++ cells_of (rows tos)) (sym none) ∙ made.rows;
-        seats = sym (append-nil now.made.slots.items)
-            ∙ ap (λ (tos : List (List ℕ)). now.made.slots.items ++ slots_in (rows tos)) (sym none) ∙ made.seats;
+        rows = sym (append-nil made.cells)
+            ∙ ap (λ (tos : List (List ℕ)). made.cells ++ cells_of (rows tos)) (sym none) ∙ are.rows;
+        seats = sym (append-nil made.seats)
+            ∙ ap (λ (tos : List (List ℕ)). made.seats ++ slots_in (rows tos)) (sym none) ∙ are.seats;
         sources = λ d e. ap (λ (tos : List (List ℕ)). last_source (is_wired now.channel) (fed_by now.channel) tos d)
-            (sym none) ∙ made.sources d e;
+            (sym none) ∙ are.sources d e;
       }
 
   pub made_near : is_far w.reach (is_wired now.channel) 0 now.channel.to.items ≡ false
-      → AllMade w (fed_by now.channel) (listed now.made)
-  made_near near =
-      let to = now.channel.to.items in
-      made_all (rounds_stop w.reach (is_wired now.channel) (length to * length to - now.done) now.first to near)
-
-  pub made_last : (count : ℕ) → count ≡ slots_of w → count * count ≤ now.done
-      → AllMade w (fed_by now.channel) (listed now.made)
-  made_last count is le =
-      let to = now.channel.to.items in
-      let square : length to * length to ≡ count * count = ap (λ (k : ℕ). k * k) (made.known.long ∙ sym is) in
-      let zero_left : length to * length to - now.done ≡ 0 = omega (arith, square, le) in
-      made_all (ap (λ (k : ℕ). rounds w.reach (is_wired now.channel) k now.first to) zero_left)
+      → AllMade w below (fed_by now.channel) made
+  made_near near = made_all (none_near w now near)
 
   -- one round more
-  module _ (turned : Channel) (turn : IsRound w now turned) where
-    known : AreDestinations (is_wired now.channel) (slots_of w) turned.to.items turned.carriers.items
-    known = turn.turns.known (slots_of w) made.known
-
-    kept : turned ≡ record now.channel { to = turned.to; carriers = turned.carriers }
-    kept = ap (λ (v : Vec Bool Global). record turned { wired = v }) turn.turns.wires
-        ∙ ap (λ (v : Vec Source Global). record turned { wired = now.channel.wired; sources = v }) turn.turns.feeds
-
-    -- its row has a cell for each slot with a wire
-    pub width : length turned.carriers.items ≡ length (added_to turned).cells
-    width = ap length known.carry ∙ carriers_count (is_wired now.channel) 0 turned.to.items
-        ∙ sym (length-map (carried (is_wired now.channel) turned.to.items) (λ (d : ℕ). buffer_from (fed_by turned d)))
-        ∙ ap (λ (v : Vec Bool Global). length (added (valuation v.items) (fed_by turned) turned.to.items).cells)
-        (sym turn.turns.wires)
-
-    pub made_step : (next : Stage) → IsNext now turned next → AreMade w next
-    made_step next step =
-        let wires = is_wired now.channel in
-        let to = turned.to.items in
-        let f = fed_by next.channel in
-        let left = rounds_left w.reach wires (now.done + 1) (not now.first) to in
-        let tos = left_next w now turned made turn in
-        let above : SameSources wires f (source_above wires to) = λ d e.
-        subst (λ (c : Channel). is_wired c d ≡ true → d < length c.sources.items
-        → f d ≡ source_above (is_wired c) c.to.items d) kept (step.above d)
-        e (omega (arith, known.below d e, made.long)) in
-        let row = added wires (fed_by now.channel) to in
-        let after : rows_ahead w now ≡ row ∷ added_rows wires f left = ap (added_rows wires (fed_by now.channel)) tos
-        ∙ ap (λ (rows : List PlacedRow). row ∷ rows) (sym (same_added wires f (source_above wires to) above left)) in
-        let channel : Channel = record now.channel {
-          to = turned.to;
-          carriers = turned.carriers;
-          sources = next.channel.sources;
-        } in
-        let channel_is : next.channel ≡ channel = step.same
-        ∙ ap (λ (c : Channel). record c { sources = next.channel.sources }) kept in
-        let same = ap (λ (d : ℕ). record { done = d; first = not now.first; channel = channel; made = next.made })
-        (sym step.done)
-        ∙ ap (λ (b : Bool). record { done = next.done; first = b; channel = channel; made = next.made })
-        (sym step.first)
-        ∙ ap (λ (c : Channel). record { done = next.done; first = next.first; channel = c; made = next.made })
-        (sym channel_is) in
-        subst (λ (s : Stage). AreMade w s) same (record {
-          known = known;
-          wires = made.wires;
-          long = step.long ∙ ap (λ (v : Vec Source Global). length v.items) turn.turns.feeds ∙ made.long;
-          rows = ap (λ (l : List (List RowCell)). l ++ cells_of (added_rows wires f left)) step.rows
-              ∙ ap (λ (c : Channel). (now.made.cells.items ++ ((added_to c).cells ∷ [])) ++ cells_of
-              (added_rows wires f left)) kept
-              ∙ append_assoc now.made.cells.items (row.cells ∷ []) (cells_of (added_rows wires f left))
-              ∙ ap (λ (rows : List PlacedRow). now.made.cells.items ++ cells_of rows) (sym after) ∙ made.rows;
-          seats = ap (λ (l : List (List ℕ)). l ++ slots_in (added_rows wires f left)) step.seats
-              ∙ ap (λ (c : Channel). (now.made.slots.items ++ ((added_to c).slots ∷ [])) ++ slots_in
-              (added_rows wires f left)) kept
-              ∙ append_assoc now.made.slots.items (row.slots ∷ []) (slots_in (added_rows wires f left))
-              ∙ ap (λ (rows : List PlacedRow). now.made.slots.items ++ slots_in rows) (sym after) ∙ made.seats;
-          sources = λ d e. same_last wires f (source_above wires to) above left d
-              (ap (λ (h : ℕ → Bool). h d) made.wires ∙ e)
-              ∙ ap (λ (l : List (List ℕ)). last_source wires (fed_by now.channel) l d) (sym tos) ∙ made.sources d e;
-        })
-
-    -- its row too many
-    pub past_round : (refusal : RepeatRefusal) → IsTooMany now.made.cells.items (added_to turned).cells refusal
-        → ArePast (w.below.cells.items ++ cells_of (rows_of w)) refusal
-    past_round refusal many =
-        let wires = is_wired now.channel in
-        let left = rounds_left w.reach wires (now.done + 1) (not now.first) turned.to.items in
-        past_more now.made.cells.items _ (added_to turned).cells
-        (cells_of (added_rows wires (source_above wires turned.to.items) left)) refusal many
-        (sym made.rows ∙ ap (λ (l : List (List ℕ)). now.made.cells.items ++ cells_of
-        (added_rows wires (fed_by now.channel) l)) (left_next w now turned made turn)
-        ∙ ap (λ (c : Channel). now.made.cells.items ++ ((added_to c).cells ∷ cells_of
-        (added_rows wires (source_above wires turned.to.items) left))) (sym kept))
+  pub made_step : (turned : Channel) → IsRound w now turned → (next : Stage) (more : Listed)
+      → IsNext now made turned next more → AreMade w below next more
+  made_step turned turn next more step =
+      let wires = is_wired now.channel in
+      let to = turned.to.items in
+      let f = fed_by next.channel in
+      let left = rounds_left w.reach wires (now.done + 1) (not now.first) to in
+      let known = turned_known w now turned are.stage turn in
+      let kept = turned_kept w now turned are.stage turn in
+      let tos = left_next w now turned are.stage turn in
+      let above : SameSources wires f (source_above wires to) = λ d e.
+      subst (λ (c : Channel). is_wired c d ≡ true → d < length c.sources.items
+      → f d ≡ source_above (is_wired c) c.to.items d) kept (step.above d)
+      e (omega (arith, known.below d e, are.long)) in
+      let row = added wires (fed_by now.channel) to in
+      let after : rows_ahead w now ≡ row ∷ added_rows wires f left = ap (added_rows wires (fed_by now.channel)) tos
+      ∙ ap (λ (rows : List PlacedRow). row ∷ rows) (sym (same_added wires f (source_above wires to) above left)) in
+      let channel : Channel = record now.channel {
+        to = turned.to;
+        carriers = turned.carriers;
+        sources = next.channel.sources;
+      } in
+      let channel_is : next.channel ≡ channel = step.same
+      ∙ ap (λ (c : Channel). record c { sources = next.channel.sources }) kept in
+      let same = ap (λ (d : ℕ). record { done = d; first = not now.first; channel = channel }) (sym step.done)
+      ∙ ap (λ (b : Bool). record { done = next.done; first = b; channel = channel }) (sym step.first)
+      ∙ ap (λ (c : Channel). record { done = next.done; first = next.first; channel = c }) (sym channel_is) in
+      subst (λ (s : Stage). AreMade w below s more) same (record {
+        stage = record { known = known; wires = are.stage.wires };
+        long = step.long ∙ ap (λ (v : Vec Source Global). length v.items) turn.turns.feeds ∙ are.long;
+        rows = ap (λ (l : List (List RowCell)). l ++ cells_of (added_rows wires f left)) step.rows
+            ∙ ap (λ (c : Channel). (made.cells ++ ((added_to c).cells ∷ [])) ++ cells_of (added_rows wires f left)) kept
+            ∙ append_assoc made.cells (row.cells ∷ []) (cells_of (added_rows wires f left))
+            ∙ ap (λ (rows : List PlacedRow). made.cells ++ cells_of rows) (sym after) ∙ are.rows;
+        seats = ap (λ (l : List (List ℕ)). l ++ slots_in (added_rows wires f left)) step.seats
+            ∙ ap (λ (c : Channel). (made.seats ++ ((added_to c).slots ∷ [])) ++ slots_in (added_rows wires f left)) kept
+            ∙ append_assoc made.seats (row.slots ∷ []) (slots_in (added_rows wires f left))
+            ∙ ap (λ (rows : List PlacedRow). made.seats ++ slots_in rows) (sym after) ∙ are.seats;
+        sources = λ d e. same_last wires f (source_above wires to) above left d
+            (ap (λ (h : ℕ → Bool). h d) are.stage.wires ∙ e)
+            ∙ ap (λ (l : List (List ℕ)). last_source wires (fed_by now.channel) l d) (sym tos) ∙ are.sources d e;
+      })
 
 -- the upper row depends on the sources of its wires
 end_more : (lower : List ℕ) (slot : ℕ) (o : Option Source) (more : List Link) (d : ℕ) → is_end more d ≡ true
@@ -249,7 +198,7 @@ module _ (lower upper : PlacedRow) (w : Work) (is : IsOpened lower upper w.chann
   tos_are = ap (λ (h : ℕ → Bool). all_rounds w.reach h w.channel.to.items) is.wired
       ∙ ap (λ (l : List ℕ). all_rounds w.reach (is_end (channel_links lower upper)) l) is.to
 
-  plan_is : rows_of w ≡ added_rows (is_end (channel_links lower upper)) (source_to (channel_links lower upper))
+  pub plan_is : rows_of w ≡ added_rows (is_end (channel_links lower upper)) (source_to (channel_links lower upper))
       (channel_rounds w.reach lower upper)
   plan_is = ap (λ (l : List (List ℕ)). added_rows (is_wired w.channel) (fed_by w.channel) l) tos_are
       ∙ ap (λ (h : ℕ → Bool). added_rows h (fed_by w.channel) (channel_rounds w.reach lower upper)) is.wired
@@ -263,11 +212,11 @@ module _ (lower upper : PlacedRow) (w : Work) (is : IsOpened lower upper w.chann
       ∙ ap (λ (s : ℕ → Source). last_source (is_end (channel_links lower upper)) s
       (channel_rounds w.reach lower upper)) is.sources
 
-  pub channel_cells : (source : ℕ → Source) (made : Listed) → AllMade w source made → (fed : List RowCell)
-      → fed ≡ cells_from source upper.cells upper.slots
-      → made.cells ++ (fed ∷ []) ≡ w.below.cells.items ++ cells_of
+  pub channel_cells : (below : Listed) (source : ℕ → Source) (made : Listed) → AllMade w below source made
+      → (fed : List RowCell) → fed ≡ cells_from source upper.cells upper.slots
+      → made.cells ++ (fed ∷ []) ≡ below.cells ++ cells_of
       (channel_rows lower upper (channel_rounds w.reach lower upper) [])
-  channel_cells source made all fed feeds =
+  channel_cells below source made all fed feeds =
       let ws = channel_links lower upper in
       let tos = channel_rounds w.reach lower upper in
       let last = last_source (is_end ws) (source_to ws) tos in
@@ -277,48 +226,27 @@ module _ (lower upper : PlacedRow) (w : Work) (is : IsOpened lower upper w.chann
       ∙ same_cells lower.slots source last upper.cells upper.slots agree in
       let plan = added_rows (is_end ws) (source_to ws) tos in
       ap (λ (l : List (List RowCell)). l ++ (fed ∷ [])) all.rows
-      ∙ ap (λ (rows : List PlacedRow). (w.below.cells.items ++ cells_of rows) ++ (fed ∷ [])) plan_is
-      ∙ ap (λ (row : List RowCell). (w.below.cells.items ++ cells_of plan) ++ (row ∷ [])) fed_is
-      ∙ append_assoc w.below.cells.items (cells_of plan) (cells_from last upper.cells upper.slots ∷ [])
-      ∙ ap (λ (l : List (List RowCell)). w.below.cells.items ++ l)
+      ∙ ap (λ (rows : List PlacedRow). (below.cells ++ cells_of rows) ++ (fed ∷ [])) plan_is
+      ∙ ap (λ (row : List RowCell). (below.cells ++ cells_of plan) ++ (row ∷ [])) fed_is
+      ∙ append_assoc below.cells (cells_of plan) (cells_from last upper.cells upper.slots ∷ [])
+      ∙ ap (λ (l : List (List RowCell)). below.cells ++ l)
       (sym (map-append (λ (row : PlacedRow). row.cells) plan
       (record { cells = cells_from last upper.cells upper.slots; slots = upper.slots } ∷ [])))
 
-  pub channel_seats : (seats : List (List ℕ)) → seats ≡ w.below.slots.items ++ slots_in (rows_of w)
-      → seats ++ (upper.slots ∷ []) ≡ w.below.slots.items ++ slots_in
+  pub channel_seats : (below seats : List (List ℕ)) → seats ≡ below ++ slots_in (rows_of w)
+      → seats ++ (upper.slots ∷ []) ≡ below ++ slots_in
       (channel_rows lower upper (channel_rounds w.reach lower upper) [])
-  channel_seats seats all =
+  channel_seats below seats all =
       let ws = channel_links lower upper in
       let tos = channel_rounds w.reach lower upper in
       let last = last_source (is_end ws) (source_to ws) tos in
       let plan = added_rows (is_end ws) (source_to ws) tos in
       ap (λ (l : List (List ℕ)). l ++ (upper.slots ∷ [])) all
-      ∙ ap (λ (rows : List PlacedRow). (w.below.slots.items ++ slots_in rows) ++ (upper.slots ∷ [])) plan_is
-      ∙ append_assoc w.below.slots.items (slots_in plan) (upper.slots ∷ [])
-      ∙ ap (λ (l : List (List ℕ)). w.below.slots.items ++ l)
+      ∙ ap (λ (rows : List PlacedRow). (below ++ slots_in rows) ++ (upper.slots ∷ [])) plan_is
+      ∙ append_assoc below (slots_in plan) (upper.slots ∷ [])
+      ∙ ap (λ (l : List (List ℕ)). below ++ l)
       (sym (map-append (λ (row : PlacedRow). row.slots) plan
       (record { cells = cells_from last upper.cells upper.slots; slots = upper.slots } ∷ [])))
-
-  -- a row of the channel too many
-  pub channel_past : (refusal : RepeatRefusal) → ArePast (w.below.cells.items ++ cells_of (rows_of w)) refusal
-      → ArePast (w.below.cells.items ++ cells_of
-      (channel_rows lower upper (channel_rounds w.reach lower upper) [])) refusal
-  channel_past refusal past =
-      let made : Listed = record {
-        cells = w.below.cells.items ++ cells_of (rows_of w);
-        seats = w.below.slots.items ++ slots_in (rows_of w);
-      } in
-      let all : AllMade w (last_of w) made = record { rows = refl; seats = refl; sources = λ d e. refl } in
-      let fed = cells_from (last_of w) upper.cells upper.slots in
-      past_also made.cells (fed ∷ []) _ refusal (channel_cells (last_of w) made all fed refl) past
-
-  pub upper_past : (source : ℕ → Source) (made : Listed) → AllMade w source made → (refusal : RepeatRefusal)
-      → IsTooMany made.cells (cells_from source upper.cells upper.slots) refusal
-      → ArePast (w.below.cells.items ++ cells_of
-      (channel_rows lower upper (channel_rounds w.reach lower upper) [])) refusal
-  upper_past source made all refusal many =
-      let fed = cells_from source upper.cells upper.slots in
-      past_more made.cells _ fed [] refusal many (sym (channel_cells source made all fed refl))
 
 -- the channel is open
 pub known_from : (lower upper : PlacedRow) (c : Channel) → IsOpened lower upper c
@@ -347,24 +275,28 @@ channel_more lower upper tos more =
 pub alone : {A : Type 0} (none rows : List A) (x y : A) → none ≡ [] → x ≡ y → rows ≡ none ++ (x ∷ []) → rows ≡ y ∷ []
 alone {A = A} none rows x y e is more = more ∙ ap (λ (l : List A). l ++ (x ∷ [])) e ∙ ap (λ (a : A). a ∷ []) is
 
-pub made_from : (reach : ℕ) (net : PlacedView) (made : Listed) → IsPlaced net → made.cells ≡ (row_of net 0).cells ∷ []
-    → made.seats ≡ (row_of net 0).slots ∷ []
-    → AreMadeTo reach net 1 made
-made_from reach net made known cells_are seats_are =
-    let all : row_of net 0 ∷ drop 1 (placed_rows net) ≡ placed_rows net =
-    sym (rows_from net known 0 1 (omega arith) (omega (arith, known.net_keeps.two_rows)))
-    ∙ drop_none (placed_rows net) in
-    record {
-      some = omega arith;
-      rows = ap (λ (l : List (List RowCell)). l ++ cells_of (rows_left reach net 1)) cells_are
-          ∙ ap (λ (rows : List PlacedRow). cells_of (repeated_rows reach rows)) all;
-      seats = ap (λ (l : List (List ℕ)). l ++ slots_in (rows_left reach net 1)) seats_are
-          ∙ ap (λ (rows : List PlacedRow). slots_in (repeated_rows reach rows)) all;
-    }
+-- the rows above the lowest one are left
+pub lowest_rows : (reach : ℕ) (net : PlacedView) → IsPlaced net
+    → row_of net 0 ∷ rows_left reach net 1 ≡ repeated_rows reach (placed_rows net)
+lowest_rows reach net known =
+    ap (repeated_rows reach)
+    (sym (rows_from net known 0 1 (omega arith) (omega (arith, known.net_keeps.two_rows)))
+    ∙ drop_none (placed_rows net))
   where
     drop_none : (rows : List PlacedRow) → drop 0 rows ≡ rows
     drop_none [] = refl
     drop_none (row ∷ rows) = refl
+
+pub made_from : (reach : ℕ) (net : PlacedView) (made : Listed) → IsPlaced net → made.cells ≡ (row_of net 0).cells ∷ []
+    → made.seats ≡ (row_of net 0).slots ∷ []
+    → AreMadeTo reach net 1 made
+made_from reach net made known cells_are seats_are = record {
+  some = omega arith;
+  rows = ap (λ (l : List (List RowCell)). l ++ cells_of (rows_left reach net 1)) cells_are
+      ∙ ap cells_of (lowest_rows reach net known);
+  seats = ap (λ (l : List (List ℕ)). l ++ slots_in (rows_left reach net 1)) seats_are
+      ∙ ap slots_in (lowest_rows reach net known);
+}
 
 -- the rows of the channel below row k
 abbrev pub channel_below : ℕ → PlacedView → ℕ → List PlacedRow
@@ -372,26 +304,31 @@ channel_below reach net k =
     channel_rows (row_of net (k - 1)) (row_of net (k - 1 + 1))
     (channel_rounds reach (row_of net (k - 1)) (row_of net (k - 1 + 1))) []
 
-pub made_channel : (reach : ℕ) (net : PlacedView) (k : ℕ) (made next : Listed) → IsPlaced net → k < length net.net.rows
-    → AreMadeTo reach net k made
-    → next.cells ≡ made.cells ++ cells_of (channel_below reach net k)
-    → next.seats ≡ made.seats ++ slots_in (channel_below reach net k)
-    → AreMadeTo reach net (k + 1) next
-made_channel reach net k made next known lt before more more_seats =
-    let some = before.some in
+pub channel_left : (reach : ℕ) (net : PlacedView) (k : ℕ) → IsPlaced net → 0 < k → k < length net.net.rows
+    → rows_left reach net k ≡ channel_below reach net k ++ rows_left reach net (k + 1)
+channel_left reach net k known some lt =
     let upper_is : k - 1 + 1 ≡ k = omega arith in
     let last_is : k + 1 - 1 ≡ k = omega arith in
     let next_is : k + 1 ≡ suc k = omega arith in
     let lower : PlacedRow = row_of net (k - 1) in
     let here : PlacedRow = row_of net k in
     let channel = λ (i : ℕ). channel_rows lower (row_of net i) (channel_rounds reach lower (row_of net i)) [] in
-    let rows = channel_below reach net k in
-    let left : rows_left reach net k ≡ rows ++ rows_left reach net (k + 1) =
     ap (rows_above reach lower) (rows_from net known k (suc k) (omega arith) lt)
     ∙ channel_more lower here (channel_rounds reach lower here) (rows_above reach here (drop (suc k) (placed_rows net)))
     ∙ ap (λ (i : ℕ). channel i ++ rows_above reach here (drop (suc k) (placed_rows net))) (sym upper_is)
-    ∙ ap (λ (i : ℕ). rows ++ rows_above reach (row_of net i) (drop (suc k) (placed_rows net))) (sym last_is)
-    ∙ ap (λ (i : ℕ). rows ++ rows_above reach (row_of net (k + 1 - 1)) (drop i (placed_rows net))) (sym next_is) in
+    ∙ ap (λ (i : ℕ). channel_below reach net k ++ rows_above reach (row_of net i) (drop (suc k) (placed_rows net)))
+    (sym last_is)
+    ∙ ap (λ (i : ℕ). channel_below reach net k ++ rows_above reach (row_of net (k + 1 - 1)) (drop i (placed_rows net)))
+    (sym next_is)
+
+pub made_channel : (reach : ℕ) (net : PlacedView) (k : ℕ) (made next : Listed) → IsPlaced net → k < length net.net.rows
+    → AreMadeTo reach net k made
+    → next.cells ≡ made.cells ++ cells_of (channel_below reach net k)
+    → next.seats ≡ made.seats ++ slots_in (channel_below reach net k)
+    → AreMadeTo reach net (k + 1) next
+made_channel reach net k made next known lt before more more_seats =
+    let rows = channel_below reach net k in
+    let left = channel_left reach net k known before.some lt in
     record {
       some = omega arith;
       rows = ap (λ (l : List (List RowCell)). l ++ cells_of (rows_left reach net (k + 1))) more
@@ -406,44 +343,21 @@ made_channel reach net k made next known lt before more more_seats =
           ∙ ap (λ (l : List PlacedRow). made.seats ++ slots_in l) (sym left) ∙ before.seats;
     }
 
--- a row too many: the lowest one, or one of the next channel
-pub past_lowest : (reach : ℕ) (net : PlacedView) (refusal : RepeatRefusal) → IsPlaced net
-    → IsTooMany [] (row_of net 0).cells refusal → IsPastLimit reach (placed_rows net) refusal
-past_lowest reach net refusal known many =
-    let made = made_from reach net
-    (record { cells = (row_of net 0).cells ∷ []; seats = (row_of net 0).slots ∷ [] }) known refl refl in
-    refused reach net refusal (past_more [] (cells_of (repeated_rows reach (placed_rows net))) (row_of net 0).cells
-    (cells_of (rows_left reach net 1)) refusal many (sym made.rows))
-
-pub past_channel : (reach : ℕ) (net : PlacedView) (k : ℕ) (made : Listed) (refusal : RepeatRefusal) → IsPlaced net
-    → k < length net.net.rows → AreMadeTo reach net k made
-    → ArePast (made.cells ++ cells_of (channel_below reach net k)) refusal → IsPastLimit reach (placed_rows net) refusal
-past_channel reach net k made refusal known lt before past =
-    let more : Listed = record {
-      cells = made.cells ++ cells_of (channel_below reach net k);
-      seats = made.seats ++ slots_in (channel_below reach net k);
-    } in
-    let next = made_channel reach net k made more known lt before refl refl in
-    refused reach net refusal (past_also more.cells (cells_of (rows_left reach net (k + 1))) _ refusal next.rows past)
-
 -- all channels
+pub none_left : (reach : ℕ) (net : PlacedView) (k : ℕ) → IsPlaced net → length net.net.rows ≤ k
+    → rows_left reach net k ≡ []
+none_left reach net k known le = ap (rows_above reach (row_of net (k - 1)))
+    (drop_all k (placed_rows net) (omega (arith, placed_long net known, le)))
+
 module _ (reach : ℕ) (net : PlacedView) (k : ℕ) (rows : Listed) (known : IsPlaced net)
     (made : AreMadeTo reach net k rows) (le : length net.net.rows ≤ k) where
-  no_rows_left : rows_left reach net k ≡ []
-  no_rows_left = ap (rows_above reach (row_of net (k - 1)))
-      (drop_all k (placed_rows net) (omega (arith, placed_long net known, le)))
-
   pub all_cells : rows.cells ≡ cells_of (repeated_rows reach (placed_rows net))
   all_cells = sym (append-nil rows.cells)
-      ∙ ap (λ (l : List PlacedRow). rows.cells ++ cells_of l) (sym no_rows_left) ∙ made.rows
+      ∙ ap (λ (l : List PlacedRow). rows.cells ++ cells_of l) (sym (none_left reach net k known le)) ∙ made.rows
 
   pub all_seats : rows.seats ≡ slots_in (repeated_rows reach (placed_rows net))
   all_seats = sym (append-nil rows.seats)
-      ∙ ap (λ (l : List PlacedRow). rows.seats ++ slots_in l) (sym no_rows_left) ∙ made.seats
+      ∙ ap (λ (l : List PlacedRow). rows.seats ++ slots_in l) (sym (none_left reach net k known le)) ∙ made.seats
 
   pub all_many : length rows.cells ≡ length (repeated_rows reach (placed_rows net))
   all_many = ap length all_cells ∙ length-map (repeated_rows reach (placed_rows net)) (λ (row : PlacedRow). row.cells)
-
-  pub all_few : (count : ℕ) → AreCounted rows.cells count → cells_past 0 (repeated_rows reach (placed_rows net)) ≡ None
-  all_few count counted = rows_fit (repeated_rows reach (placed_rows net))
-      (omega (arith, counted.count, counted.few, ap cells_in all_cells))

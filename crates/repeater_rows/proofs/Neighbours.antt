@@ -4,7 +4,7 @@ use Rattle.std.proofs.Common.{subst, arith}
 use Rattle.std.proofs.lemmas.List.Elements.{All-from_recursion}
 use Rattle.std.proofs.lemmas.Option.{get_or_from_slice_get}
 use Rattle.rowed.specs.declared.row_cell.RowCell.{RowCell}
-use Rattle.rowed.specs.Slots.{slot_limit}
+use Rattle.rowed.specs.Limits.{slot_limit}
 use Rattle.rowed.specs.PlacedNets.{PlacedRow, PlacedView, IsPlaced, row_of}
 use Rattle.rowed.proofs.NeighbourLaws.{seated_at, channel_at, channel_fits, slots_below}
 use Rattle.repeater_rows.specs.Code.Opening.{AreNeighbours}

@@ -6,7 +6,7 @@ use Rattle.rowed.specs.declared.row_cell.RowCell.{RowCell}
 use Rattle.rowed.specs.RowNets.{IsAnswer}
 use Rattle.rowed.specs.PlacedNets.{PlacedRow, PlacedView, IsPlaced, placed_rows}
 use Rattle.rowed.specs.Counts.{cells_in}
-use Rattle.rowed.specs.Extent.{cell_limit, height_limit}
+use Rattle.rowed.specs.Limits.{cell_limit, height_limit}
 use Rattle.repeater_rows.specs.Repeaters.{repeated, repeated_rows}
 use Rattle.repeater_rows.specs.declared.pass.RepeatRefusal.{RepeatRefusal}
 use Rattle.repeater_rows.specs.declared.pass.RepeatRefusal.TheVariants.{TooManyCells, TooTall, Memory}

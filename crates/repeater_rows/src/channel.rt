@@ -2,7 +2,7 @@
 ghost use Rattle.std.specs.Prelude.{◌≡◌, ℕ, ◌<◌, ◌≤◌, ◌+◌, ◌/◌, Bool, true, length, cond, slice_get, IfOk, OnOk, map};
 ghost use Rattle.std.specs.List.{All};
 ghost use Rattle.circuit.specs.Gates.{valuation};
-ghost use Rattle.rowed.specs.Slots.{slot_limit};
+ghost use Rattle.rowed.specs.Limits.{slot_limit};
 ghost use Rattle.rowed.specs.PlacedNets.{PlacedRow, IsPlaced};
 ghost use Rattle.rowed.specs.PlacedNets.{row_of};
 ghost use Rattle.repeater_rows.specs.Rounds.{is_far};

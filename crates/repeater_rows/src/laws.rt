@@ -12,7 +12,7 @@ ghost use Rattle.repeater_rows.specs.Destinations.{destinations, is_end};
 ghost use Rattle.sorting.specs.Sorting.{in_order};
 ghost use Rattle.repeater_rows.specs.Rounds.{AreRounds, AreOrders, all_rounds, round, window_size};
 ghost use Rattle.repeater_rows.specs.Repeaters.{channel_rounds, repeated_rows, repeated, buffer_from, carrier_slots};
-ghost use Rattle.rowed.specs.Extent.{cell_limit};
+ghost use Rattle.rowed.specs.Limits.{cell_limit};
 ghost use Rattle.repeater_rows.specs.Passes.{AreRepeated, IsTooLarge, cells_past, IsFirstPast};
 ghost use Rattle.sorting.specs.Inversions.{inversions};
 ghost use Rattle.repeater_rows.specs.Local.{UnwiredRise};

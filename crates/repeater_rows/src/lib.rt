@@ -3,6 +3,7 @@
 
 mod cells;
 mod channel;
+mod counting;
 mod destinations;
 mod laws;
 mod pass;

@@ -11,7 +11,7 @@ use Rattle.sorting.specs.Sorting.{by_key}
 use Rattle.sorting.proofs.SortingLaws.{by_key_all}
 use Rattle.sorting.specs.Numbers.{numbers}
 use Rattle.sorting.proofs.NumbersLaws.{length-by_key_numbers}
-use Rattle.rowed.specs.Slots.{slot_limit}
+use Rattle.rowed.specs.Limits.{slot_limit}
 use Rattle.rowed.specs.Extent.{packed_span}
 use Rattle.row_place.specs.Keys.{key}
 use Rattle.row_place.specs.Places.{picked}

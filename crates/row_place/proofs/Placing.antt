@@ -6,8 +6,8 @@ use Rattle.std.proofs.lemmas.Nat.{mul-le}
 use Rattle.rowed.specs.declared.row_cell.RowCell.{RowCell}
 use Rattle.rowed.specs.RowNets.{RowView, IsRowNet}
 use Rattle.rowed.specs.PlacedNets.{PlacedView}
-use Rattle.rowed.specs.Slots.{slot_limit}
-use Rattle.rowed.specs.Extent.{packed_span, widest_packed, width_limit}
+use Rattle.rowed.specs.Limits.{slot_limit, width_limit}
+use Rattle.rowed.specs.Extent.{packed_span, widest_packed}
 use Rattle.row_place.specs.Places.{place, place_rows, no_order}
 use Rattle.row_place.specs.Code.Arrays.{row_cells, row_slots}
 use Rattle.row_place.specs.Passes.{ArePlaces}

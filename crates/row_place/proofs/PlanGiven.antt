@@ -4,8 +4,8 @@ use Rattle.std.proofs.Common.{ℕ, ◌≤◌, ◌*◌, refl, arith, inl, inr}
 use Rattle.std.proofs.lemmas.Bool.{cases_lt}
 use Rattle.std.proofs.lemmas.Nat.{mul-le}
 use Rattle.rowed.specs.RowNets.{RowView, IsRowNet}
-use Rattle.rowed.specs.Slots.{slot_limit}
-use Rattle.rowed.specs.Extent.{widest_packed, width_limit}
+use Rattle.rowed.specs.Limits.{slot_limit, width_limit}
+use Rattle.rowed.specs.Extent.{widest_packed}
 use Rattle.row_place.specs.Places.{place}
 use Rattle.row_place.specs.Passes.{ArePlaces, IsTooWide}
 use Rattle.row_place.proofs.PlanLaws.{places_keep, places_answer}

@@ -8,7 +8,8 @@ use Rattle.circuit.specs.declared.cell_kind.CellKind.{CellKind}
 use Rattle.circuit.specs.declared.cell_kind.CellKind.TheVariants.{Buffer}
 use Rattle.rowed.specs.declared.row_cell.RowCell.{RowCell}
 use Rattle.rowed.specs.RowNets.{row_at}
-use Rattle.rowed.specs.Slots.{AreSeated, EachSeated, slot_limit}
+use Rattle.rowed.specs.Slots.{AreSeated, EachSeated}
+use Rattle.rowed.specs.Limits.{slot_limit}
 use Rattle.rowed.specs.PlacedNets.{PlacedView, IsPlaced, row_of}
 use Rattle.rowed.specs.Channels.{channel_links, channel_slots, IsChannel}
 use Rattle.rowed.proofs.RowsAboveLaws.{row_above}

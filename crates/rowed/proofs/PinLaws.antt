@@ -10,7 +10,8 @@ use Rattle.circuit.specs.CellKinds.{slots_of}
 use Rattle.rowed.specs.declared.source.Source.{Source}
 use Rattle.rowed.specs.declared.row_cell.RowCell.{RowCell}
 use Rattle.rowed.specs.RowCells.{source_at}
-use Rattle.rowed.specs.Slots.{AreSeated, span_of, slot_limit}
+use Rattle.rowed.specs.Slots.{AreSeated, span_of}
+use Rattle.rowed.specs.Limits.{slot_limit}
 use Rattle.rowed.specs.PlacedNets.{PlacedRow}
 use Rattle.rowed.specs.Channels.{Link, source_slot, pin_link, links, channel_links, User}
 

@@ -1,5 +1,5 @@
--- How far the rows reach, in slots, before they are placed and after; and the limits of a chip's cells, width, height.
-use Rattle.std.specs.Prelude.{ℕ, ◌+◌, ◌*◌, ◌<◌, ◌≤◌, max, List, [], ◌∷◌}
+-- How far the rows reach, in slots, before they are placed and after.
+use Rattle.std.specs.Prelude.{ℕ, ◌+◌, max, List, [], ◌∷◌}
 use Rattle.circuit.specs.CellKinds.{slots_of}
 use Rattle.rowed.specs.declared.row_cell.RowCell.{RowCell}
 use Rattle.rowed.specs.Slots.{span_of}
@@ -19,22 +19,3 @@ widest_packed (row ∷ rows) = max (packed_span row) (widest_packed rows)
 abbrev pub widest : List PlacedRow → ℕ
 widest [] = 0
 widest (row ∷ rows) = max (span_of row.cells row.slots) (widest rows)
-
--- how many cells a chip may have
-abbrev pub cell_limit : ℕ
-cell_limit = 2000000
-
--- how wide a row may be, in nanometres
-abbrev pub width_limit : ℕ
-width_limit = 2000000000
-
--- a span keeps this limit, with slots of some width in nanometres, or it passes the limit
-abbrev pub KeepsWidth : ℕ → ℕ → Type 0
-KeepsWidth span slot_width = span * slot_width ≤ width_limit
-
-abbrev pub PassesWidth : ℕ → ℕ → Type 0
-PassesWidth span slot_width = width_limit < span * slot_width
-
--- how high the rows and their channels may be, in nanometres
-abbrev pub height_limit : ℕ
-height_limit = 2147483647

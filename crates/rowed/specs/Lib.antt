@@ -8,4 +8,5 @@ pub mod PlacedNets
 pub mod Channels
 pub mod Short
 pub mod Extent
+pub mod Limits
 pub mod Code

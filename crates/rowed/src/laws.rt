@@ -5,7 +5,7 @@ ghost use Rattle.rowed.specs.declared.source.Source.{Source};
 ghost use Rattle.rowed.specs.declared.row_cell.RowCell.{RowCell};
 ghost use Rattle.rowed.specs.RowNets.{row_at, cell_at, fed_at};
 ghost use Rattle.rowed.specs.Counts.{cells_in, cell_number, IsCellAt};
-ghost use Rattle.rowed.specs.Slots.{slot_limit};
+ghost use Rattle.rowed.specs.Limits.{slot_limit};
 ghost use Rattle.rowed.specs.PlacedNets.{PlacedView, IsPlaced, placed_rows, row_of};
 ghost use Rattle.rowed.specs.Channels.{Link, IsChannel, User, channel_links, channel_slots, link_to};
 ghost use Rattle.rowed.specs.Short.{IsShort, AreShort};

@@ -1,12 +1,11 @@
 // How wide rows are: the spans of their cells, and the limit of a chip's width.
 ghost use Rattle.std.specs.Prelude.{◌≡◌, ◌*◌, ◌<◌, ◌^◌, length, nat_lt};
 ghost use Rattle.rowed.specs.Slots.{span_of};
-ghost use Rattle.rowed.specs.Extent.{packed_span, width_limit};
+ghost use Rattle.rowed.specs.Extent.{packed_span};
+ghost use Rattle.rowed.specs.Limits.{width_limit};
 
 use crate::RowCell;
-
-/// How wide a row may be, in nanometres.
-const WIDTH_LIMIT: u128 = 2_000_000_000;
+use crate::limits::WIDTH_LIMIT;
 
 /// The span of a row whose cells are packed without gaps.
 pub(crate) fn packed_span(cells: &[RowCell]) -> u64
@@ -37,5 +36,5 @@ pub(crate) fn span_of(cells: &[RowCell], slots: &[u32]) -> u64
 pub fn is_too_wide(span: u64, slot_width: u64) -> bool
     ensures { result ≡ nat_lt width_limit (span * slot_width) }
 {
-    u128::from(span) * u128::from(slot_width) > WIDTH_LIMIT
+    u128::from(span) * u128::from(slot_width) > u128::from(WIDTH_LIMIT)
 }

@@ -1,5 +1,6 @@
 -- The records of a stream, as a front part of its bytes.
 use Rattle.std.specs.Prelude.{◌≡◌, ℕ, ◌<◌, ◌≤◌, List, take, drop, length, true, Some}
+use Rattle.geom.specs.FlatForm.{shape_limit}
 use Rattle.poly_cut.specs.declared.layout.WideLayout.{WideLayout}
 use Rattle.poly_cut.specs.Counts.{wide_count, told}
 use Rattle.gds_records.specs.Records.{Record}
@@ -32,5 +33,5 @@ IsWholeRefusal rs Memory = Unit {0}
 -- why a layout is not taken: its size, or want of memory
 abbrev pub IsOversize : WideLayout → StreamRefusal → Type 0
 IsOversize layout (Bad offset kind) = ⊥
-IsOversize layout (TooManyShapes count) = (count ≡ told (wide_count layout)) × (8000000 < count)
+IsOversize layout (TooManyShapes count) = (count ≡ told (wide_count layout)) × (shape_limit < count)
 IsOversize layout Memory = Unit {0}

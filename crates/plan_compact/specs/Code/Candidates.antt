@@ -4,7 +4,8 @@ use Rattle.blif_read.specs.Parts.{NetView}
 use Rattle.rowed.specs.PlacedNets.{PlacedView}
 use Rattle.cell_library.specs.Library.{LibraryView}
 use Rattle.layout_make.specs.MayDraw.{MayDraw}
-use Rattle.layout_make.specs.Size.{element_number, element_limit}
+use Rattle.layout_make.specs.Size.{element_number}
+use Rattle.rowed.specs.Limits.{element_limit}
 use Rattle.plan_build.specs.Laws.{AnswersAs}
 
 -- it may be drawn, and answers as the netlist

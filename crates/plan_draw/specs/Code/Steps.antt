@@ -3,7 +3,8 @@ use Rattle.std.specs.Prelude.{◌≡◌, ◌≤◌, length, None}
 use Rattle.blif_read.specs.Parts.{NetView}
 use Rattle.rowed.specs.PlacedNets.{PlacedView, placed_rows}
 use Rattle.rowed.specs.RowNets.{RowView}
-use Rattle.rowed.specs.Extent.{widest_packed, KeepsWidth, cell_limit, height_limit}
+use Rattle.rowed.specs.Extent.{widest_packed}
+use Rattle.rowed.specs.Limits.{KeepsWidth, cell_limit, height_limit}
 use Rattle.rowed.specs.Counts.{cells_in}
 use Rattle.plan_draw.specs.Packs.{IsPacked}
 use Rattle.repeater_rows.specs.Passes.{cells_past}

@@ -4,12 +4,13 @@ use Rattle.blif_read.specs.Parts.{NetView}
 use Rattle.rowed.specs.PlacedNets.{PlacedView, IsPlaced, placed_rows}
 use Rattle.rowed.specs.Short.{AreShort}
 use Rattle.rowed.specs.Counts.{cells_in}
-use Rattle.rowed.specs.Extent.{cell_limit, height_limit, widest, KeepsWidth}
+use Rattle.rowed.specs.Extent.{widest}
+use Rattle.rowed.specs.Limits.{cell_limit, height_limit, KeepsWidth, element_limit}
 use Rattle.repeater_rows.specs.Repeaters.{repeated}
 use Rattle.cell_library.specs.Library.{LibraryView}
 use Rattle.cell_library.specs.Reach.{reach_of, slot_width_of}
 use Rattle.layout_make.specs.MayDraw.{GivesKinds, most_height}
-use Rattle.layout_make.specs.Size.{element_number, element_limit}
+use Rattle.layout_make.specs.Size.{element_number}
 use Rattle.plan_build.specs.Laws.{AnswersAs}
 
 -- it has its repeaters, its wires are short, and its cells and its height keep their limits

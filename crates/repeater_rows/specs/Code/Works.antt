@@ -35,11 +35,10 @@ pub record IsTurned (reach : ℕ) (first : Bool) (old new : Channel) : Type 0 wh
   pub wires : new.wired ≡ old.wired
   pub feeds : new.sources ≡ old.sources
 
--- the work on a channel, before its first round: the reach, the channel, and the rows below it
+-- the work on a channel, before its first round
 pub record Work : Type 0 where
   pub reach : ℕ
   pub channel : Channel
-  pub below : Rows
 
 -- its rounds, the rows that they add, and the sources above these
 abbrev pub rounds_of : Work → List (List ℕ)
@@ -51,8 +50,8 @@ rows_of w = added_rows (is_wired w.channel) (fed_by w.channel) (rounds_of w)
 abbrev pub last_of : Work → ℕ → Source
 last_of w = last_source (is_wired w.channel) (fed_by w.channel) (rounds_of w)
 
--- these rows are made, and this feeds the wires above
-pub record AllMade (w : Work) (feeds : ℕ → Source) (made : Listed) : Type 0 where
-  pub rows : made.cells ≡ w.below.cells.items ++ map (λ (row : PlacedRow). row.cells) (rows_of w)
-  pub seats : made.seats ≡ w.below.slots.items ++ map (λ (row : PlacedRow). row.slots) (rows_of w)
+-- these rows are made, above those below, and this feeds the wires above
+pub record AllMade (w : Work) (below : Listed) (feeds : ℕ → Source) (made : Listed) : Type 0 where
+  pub rows : made.cells ≡ below.cells ++ map (λ (row : PlacedRow). row.cells) (rows_of w)
+  pub seats : made.seats ≡ below.seats ++ map (λ (row : PlacedRow). row.slots) (rows_of w)
   pub sources : (d : ℕ) → is_wired w.channel d ≡ true → feeds d ≡ last_of w d

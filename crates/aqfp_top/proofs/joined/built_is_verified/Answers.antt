@@ -1,5 +1,6 @@
 use Rattle.std.proofs.Common.{◌≤◌, subst, sym}
-use Rattle.layout_make.specs.Size.{element_number, element_limit}
+use Rattle.layout_make.specs.Size.{element_number}
+use Rattle.rowed.specs.Limits.{element_limit}
 use Rattle.aqfp_top.proofs.Joining.{Laws, verified}
 use Rattle.aqfp_top.proofs.joined.built_is_verified.Goals as goal
 

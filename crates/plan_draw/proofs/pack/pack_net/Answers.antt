@@ -1,6 +1,6 @@
 use Rattle.std.proofs.Common.{rules, ◌≡◌, ◌*◌, ◌≤◌, subst}
 use Rattle.std.proofs.Common.{ℕ, map}
-use Rattle.rowed.specs.Extent.{width_limit}
+use Rattle.rowed.specs.Limits.{width_limit}
 use Rattle.row_place.specs.Places.{packed}
 use Rattle.plan_draw.proofs.Packed.{narrow_rows, packed_slots}
 use Rattle.plan_draw.proofs.pack.pack_net.Goals as goal
