@@ -81,4 +81,4 @@ A status above 0 comes with one line on standard error.
 ";
 
 /// The program's name and version.
-pub const VERSION: &str = "aqfp 0.12.0\n";
+pub const VERSION: &str = "aqfp 0.12.1\n";

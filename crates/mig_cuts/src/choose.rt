@@ -1,4 +1,5 @@
-// The choice of a cut and a recipe for a node, by the cuts of the graph that was given. Nothing depends on it but which nodes there are.
+// The choice of a cut and a recipe for a node, by the cuts of the graph that was given. Nothing depends on it but which
+// nodes there are.
 use crate::cuts::{AllCuts, Cut};
 use crate::forms::{image_replacement, leaves_of};
 use crate::recipes::Recipes;

@@ -56,7 +56,8 @@ fn is_constant(table: u64) -> bool {
     table == 0 || table == u64::MAX
 }
 
-/// How costly the choice of these parts is: the least is taken.
+/// What it costs to join these parts, by the inputs that they depend on: nothing where one of them is constant or the
+/// other's complement, since one gate joins them then, and one more where neither holds the other.
 fn cost(parts: Parts) -> u32 {
     if is_constant(parts.low) || is_constant(parts.high) || parts.low ^ parts.high == u64::MAX {
         return 0;

@@ -17,7 +17,8 @@ fn maj_of(builder: &mut Builder, x: u32, y: u32, z: u32) -> Result<u32, GraphRef
     }
 }
 
-/// The graph of a vote of three by gates of two inputs, if its literal is there.
+/// The graph of a vote of three by gates of two inputs, (a and b) or ((a or b) and c), if its literal is there. Literal 0
+/// is false and 1 true, 2, 4 and 6 are the inputs; a majority with 0 is an and, one with 1 an or.
 fn vote(alloc: Global) -> Result<Option<Graph>, GraphRefusal> {
     let mut builder = Builder::new(alloc, 3)?;
     let both = maj_of(&mut builder, 0, 2, 4)?;
@@ -48,7 +49,9 @@ fn votes(alloc: Global, graph: &Graph, number: u32) -> Result<bool, Memory> {
 
 #[test]
 fn votes_of_three(rt: HostRuntime) -> Result<(), Fail> {
-    let Some(gates) = vote(rt.alloc())? else {
+    let found = vote(rt.alloc())?;
+    assert!(rt; found.is_some(), "the vote has no literal");
+    let Some(gates) = found else {
         return Ok(());
     };
     let made = Resubstitution.run(rt.alloc(), &gates)?;

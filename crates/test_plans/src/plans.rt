@@ -28,6 +28,9 @@ const FOUR: &str = ".inputs a b c d\n.outputs a b c d\n";
 
 const TWO: &str = ".inputs a b\n.outputs a b\n";
 
+// A part of a library that is replaced by itself: the library stays as it is.
+const SAME: &str = "wire";
+
 // What the plan gives.
 #[derive(Clone, Copy, PartialEq)]
 enum Plan {
@@ -77,31 +80,27 @@ fn plan_of(rt: &HostRuntime, net: &Netlist, library: &Library) -> Plan {
 }
 
 // What the plan of a text gives with a library, or with another text of one, with one part replaced.
-fn plan_with(
-    rt: &HostRuntime,
-    text: &str,
-    cells: &str,
-    old: &str,
-    new: &str,
-) -> Result<Plan, Fail> {
+fn plan_with(rt: &HostRuntime, text: &str, base: &str, old: &str, new: &str) -> Result<Plan, Fail> {
     let net = netlist(rt, text)?;
-    let library = library(rt, cells, old, new)?;
+    let library = library(rt, base, old, new)?;
     Ok(plan_of(rt, &net, &library))
 }
 
-// With library A, and with changes of it.
+// With library A, and with changes of it: text, part, new part, rows, cells. An and has two buffers of inputs, a
+// constant, the majority, and a buffer of the output; three uses have a splitter of three, or without it two of two and
+// a buffer.
 #[test]
 fn chips(rt: HostRuntime) -> Result<(), Fail> {
     let split3 = "[split3]\ninputs = [1]\noutputs = [2, 6, 10]\n";
     for (text, old, new, rows, cells) in [
-        (WIRE, "wire", "wire", 2, 2),
-        (AND, "wire", "wire", 3, 5),
-        (EXCLUSIVE_OR, "wire", "wire", 6, 13),
-        (CONSTANT, "wire", "wire", 2, 4),
-        (TURNED_AND, "wire", "wire", 3, 5),
+        (WIRE, SAME, SAME, 2, 2),
+        (AND, SAME, SAME, 3, 5),
+        (EXCLUSIVE_OR, SAME, SAME, 6, 13),
+        (CONSTANT, SAME, SAME, 2, 4),
+        (TURNED_AND, SAME, SAME, 3, 5),
         (TURNED_AND, "capacity = 28", "capacity = 4", 5, 11),
         (WIRE, "limit = 180000", "limit = 78000", 2, 2),
-        (THREE_USES, "wire", "wire", 3, 5),
+        (THREE_USES, SAME, SAME, 3, 5),
         (THREE_USES, split3, "", 4, 7),
     ] {
         let plan = plan_with(&rt, text, LIBRARY_A, old, new)?;
@@ -115,15 +114,15 @@ fn chips(rt: HostRuntime) -> Result<(), Fail> {
 fn limits(rt: HostRuntime) -> Result<(), Fail> {
     let sizes = "pitch = 2000\ncolumns = 4\ncapacity = 28\nlimit = 180000";
     let tall = "pitch = 1000000\ncolumns = 4\ncapacity = 1000\nlimit = 2000000000";
-    for (text, cells, old, new, plan) in [
+    for (text, base, old, new, plan) in [
         (
             FOUR,
             WIDE,
-            "wire",
-            "wire",
+            SAME,
+            SAME,
             Plan::Refused(PlanRefusal::Slots { span: 4 }),
         ),
-        (TWO, WIDE, "wire", "wire", Plan::Chip { rows: 2, cells: 4 }),
+        (TWO, WIDE, SAME, SAME, Plan::Chip { rows: 2, cells: 4 }),
         (
             EXCLUSIVE_OR,
             LIBRARY_A,
@@ -139,7 +138,7 @@ fn limits(rt: HostRuntime) -> Result<(), Fail> {
             Plan::Chip { rows: 2, cells: 2 },
         ),
     ] {
-        assert!(rt; plan_with(&rt, text, cells, old, new)? == plan, "{text}");
+        assert!(rt; plan_with(&rt, text, base, old, new)? == plan, "{text}");
     }
     Ok(())
 }

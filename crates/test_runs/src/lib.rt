@@ -26,7 +26,11 @@ pub const AND: &str = ".inputs a b\n.outputs y\n.names a b y\n11 1\n";
 /// Their exclusive or.
 pub const XOR: &str = ".inputs a b\n.outputs y\n.names a b y\n10 1\n01 1\n";
 
-/// The stream of the first chip, as the manual's records spell it.
+/// The stream of the first chip, as the GDSII manual spells it.
+/// A record is its length in two bytes, its type, its data type, and its data. They begin at these offsets: HEADER 0,
+/// BGNLIB 6, LIBNAME 34, UNITS 42; structure BUF: BGNSTR 62, STRNAME 90, boundaries 98 (LAYER 102, XY 114, ENDEL 158),
+/// 162 and 226, ENDSTR 290; structure TOP: BGNSTR 294, STRNAME 322, references 330 and 806 (SNAME 334 and 810, XY 342
+/// and 818), boundaries from 358 and from 834, labels 962 and 1000 (XY 978 and 1016), ENDSTR 1038, ENDLIB 1042.
 pub const STREAM: [u8; 1046] = [
     0, 6, 0, 2, 2, 88, 0, 28, 1, 2, 7, 178, 0, 1, 0, 1, 0, 0, 0, 0, 0, 0, 7, 178, 0, 1, 0, 1, 0, 0,
     0, 0, 0, 0, 0, 8, 2, 6, 65, 81, 70, 80, 0, 20, 3, 5, 62, 65, 137, 55, 75, 198, 167, 240, 57,
